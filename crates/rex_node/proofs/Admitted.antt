@@ -19,7 +19,7 @@ use Rattle.rex_node.proofs.Stamping.{held_last}
 told_same : (up leads : Bool) (replayed seen : ℕ) {v w : ℤ} → (up ≡ true → leads ≡ false → v ≡ w) → answered up leads replayed v seen ≡ answered up leads replayed w seen
 told_same false leads replayed seen h = refl
 told_same true true replayed seen h = refl
-told_same true false replayed seen h = ap (λ (z : ℤ). answered true false replayed z seen) (h refl refl)
+told_same true false replayed seen h = ap (λ z. answered true false replayed z seen) (h refl refl)
 
 idle : (w : Option ActingValue) → is_some w ≡ false → w ≡ None
 idle None e = refl
@@ -32,14 +32,14 @@ module _ {K : Type 0} {records : K → List (List ℕ)} {service : Declarations}
   value_is variable up follows =
       let u = node.up up in
       let none : x.acting ≡ None = idle x.acting (sym (role_active service x.known x.acceptor _ x.acting u.acting) ∙ follows) in
-      ap (λ (s : StateValue). value_in s variable)
+      ap (λ s. value_in s variable)
       (sym (state_is service _ _ (u.ahead none))
-      ∙ ap (λ (vs : List Value). state_after service (trace_of (take x.replayed vs))) u.known)
+      ∙ ap (λ vs. state_after service (trace_of (take x.replayed vs))) u.known)
 
   pub read_is : (variable seen : ℕ) {leads : Bool} {v : ℤ} → leads ≡ is_active (here_of records service past x).role → v ≡ value_in (state_of x) variable
       → answered x.up leads x.replayed v seen ≡ read_at service (here_of records service past x) variable seen
   read_is variable seen {v} leads_is v_is =
-      ap (λ (t : Bool). answered x.up t x.replayed v seen) leads_is
+      ap (λ t. answered x.up t x.replayed v seen) leads_is
       ∙ told_same x.up _ _ seen
       (λ up follows. v_is ∙ value_is variable up follows)
 
@@ -51,8 +51,8 @@ module _ {K : Type 0} {records : K → List (List ℕ)} {service : Declarations}
 
     last : max (last_reply client 1 x.known) x.offset ≡ stamp_at (here_of records service past x) client
     last =
-        ap (λ (vs : List Value). max (last_reply client 1 vs) x.offset) u.known
-        ∙ ap (λ (o : ℕ). max (last_reply client 1 (known (here_of records service past x).log)) o) u.offset
+        ap (λ vs. max (last_reply client 1 vs) x.offset) u.known
+        ∙ ap (λ o. max (last_reply client 1 (known (here_of records service past x).log)) o) u.offset
 
     -- where what is known of the clients has none, it is that of the last value that is held and has a reply to the client
     pub stamp_held : last_held x.offset (drop x.offset x.known) client ≡ stamp_at (here_of records service past x) client

@@ -61,10 +61,10 @@ module _ {V S : Type 0} (n : ℕ) (sv : Service V S) (me : ℕ) where
   pub turn_chooses : (d : Call V S) {l : Lead V} (k : Call V S → Call V S) → d.node.role ≡ Leading l → l.proposal ≡ None → l.active ≡ false → is_majority n l.counted ≡ true
       → turn n sv me d d.node.role k ≡ choose n sv me d l (suc (length (known d.node.log))) (best (suc (length (known d.node.log))) l.reported) k
   turn_chooses d {l} k role none idle many =
-      ap (λ (r : Role V). turn n sv me d r k) role
-      ∙ ap (λ (o : Option (Proposal V)). lead n sv me d l o k) none
-      ∙ ap (λ (t : Bool). cond t d (cond (is_majority n l.counted) (choose n sv me d l (suc (length (known d.node.log))) (best (suc (length (known d.node.log))) l.reported) k) d)) idle
-      ∙ ap (λ (t : Bool). cond t (choose n sv me d l (suc (length (known d.node.log))) (best (suc (length (known d.node.log))) l.reported) k) d) many
+      ap (λ r. turn n sv me d r k) role
+      ∙ ap (λ o. lead n sv me d l o k) none
+      ∙ ap (λ t. cond t d (cond (is_majority n l.counted) (choose n sv me d l (suc (length (known d.node.log))) (best (suc (length (known d.node.log))) l.reported) k) d)) idle
+      ∙ ap (λ t. cond t (choose n sv me d l (suc (length (known d.node.log))) (best (suc (length (known d.node.log))) l.reported) k) d) many
 
   -- an append doesn't ask for the role
   append_led : (a : Option Failure) (r : Rec V S) (d : Call V S) (role : Role V) {k : Call V S → Call V S} → ((e : Call V S) → k (led role e) ≡ k e) → append a me r (led role d) k ≡ append a me r d k
@@ -80,7 +80,7 @@ module _ {V S : Type 0} (n : ℕ) (sv : Service V S) (me : ℕ) where
 -- so many proposals are above as in the model
 above_kept : (k : ℕ) (ps : List Kept) → above k ps ≡ stopping.above k (map proposal_in ps)
 above_kept k [] = refl
-above_kept k (p ∷ ps) = ap (λ (m : ℕ). cond (nat_lt k p.instance) (suc m) m) (above_kept k ps)
+above_kept k (p ∷ ps) = ap (λ m. cond (nat_lt k p.instance) (suc m) m) (above_kept k ps)
 
 -- one that is taken is one less
 taken_less : (k : ℕ) (ps : List Kept) {q : Kept} → best_for (suc k) ps ≡ Some q → above (suc k) ps < above k ps
@@ -163,24 +163,24 @@ module _ {K : Type 0} {records : K → List (List ℕ)} (gives : K → List ℕ 
   proposes = subst (IsProposer x.nodes x.id x.acceptor) c.p_is (kept_so.up up).proposer
 
   lead_fits : LeadFits (length x.known) (lead_of x.acceptor c.p (is_some x.acting))
-  lead_fits = subst (λ (o : Option ProposerValue). RoleFits (length x.known) (role_of x.acceptor o (is_some x.acting))) c.p_is (beside_of records service past x (kept_so.up up)).role
+  lead_fits = subst (λ o. RoleFits (length x.known) (role_of x.acceptor o (is_some x.acting))) c.p_is (beside_of records service past x (kept_so.up up)).role
 
   may_p : 2 * above (length x.known) c.p.reported + 1 ≤ turns
-  may_p = subst (λ (o : Option ProposerValue). IfSome o (λ (p : ProposerValue). 2 * above (length x.known) p.reported + 1 ≤ turns)) c.p_is may
+  may_p = subst (λ o. IfSome o (λ p. 2 * above (length x.known) p.reported + 1 ≤ turns)) c.p_is may
 
   next_suc : i ≡ suc (length x.known)
   next_suc = omega (arith, next)
 
   less : above (suc (length x.known)) c.p.reported < above (length x.known) c.p.reported
-  less = taken_less (length x.known) c.p.reported (ap (λ (j : ℕ). best_for j c.p.reported) (sym next_suc) ∙ c.q_is)
+  less = taken_less (length x.known) c.p.reported (ap (λ j. best_for j c.p.reported) (sym next_suc) ∙ c.q_is)
 
   best_here : best i (map proposal_in c.p.reported) ≡ Some (proposal_in c.q)
   best_here = bridges.best_is i _ ∙ ap (option_map proposal_in) c.q_is
 
   majority : is_majority x.nodes c.p.promised ≡ true
   majority =
-      bridges.majority_is (subst (λ (n : ℕ). AreCounted n c.p.promised) proposes.nodes_are proposes.once.promises)
-      ∙ ap (λ (n : ℕ). counting.is_majority n (length c.p.promised)) (sym proposes.nodes_are) ∙ c.many
+      bridges.majority_is (subst (λ n. AreCounted n c.p.promised) proposes.nodes_are proposes.once.promises)
+      ∙ ap (λ n. counting.is_majority n (length c.p.promised)) (sym proposes.nodes_are) ∙ c.many
 
   -- what it asks for of its proposal
   pub chosen_there : ballots.IsInstance i
@@ -189,22 +189,22 @@ module _ {K : Type 0} {records : K → List (List ℕ)} (gives : K → List ℕ 
       fits_instance (subst ranges.IsInstance b.1 (lead_fits.reported (proposal_in c.q) b.0).instance)
 
   pub chosen_short : IsValue v
-  chosen_short = subst IsValue c.v_is (taken_in (λ (q : Kept). IsValue q.value) i _ c.q_is proposes.short)
+  chosen_short = subst IsValue c.v_is (taken_in (λ q. IsValue q.value) i _ c.q_is proposes.short)
 
   pub chosen_leads : IsSome x.proposer
-  chosen_leads = subst (λ (o : Option ProposerValue). IsSome o) (sym c.p_is) refl
+  chosen_leads = subst (λ o. IsSome o) (sym c.p_is) refl
 
   pub chosen_cut : IsOwnCut service x v
-  chosen_cut = subst (λ (w : Option ActingValue). IfSome w (λ (a : ActingValue). IsCutAt service x.known a v)) (sym c.idle) tt
+  chosen_cut = subst (λ w. IfSome w (λ a. IsCutAt service x.known a v)) (sym c.idle) tt
 
   -- the model's call proposes the same
   settle_is : (before : Draft) (f : Option Failure) → settle turns x.nodes sv x.id (armed_with f (so_far records service past x before)) ≡ propose x.nodes x.id (effect.Adopts x.id i (length (events_of v))) (armed_with f (so_far records service past x before)) l i v (settle (turns - 1) x.nodes sv x.id)
   settle_is before f =
-      ap (λ (t : ℕ). settle t x.nodes sv x.id d) (let t : turns ≡ suc (turns - 1) = omega (arith, may_p) in t)
-      ∙ turn_chooses x.nodes sv x.id d k (ap (λ (o : Option ProposerValue). role_of x.acceptor o (is_some x.acting)) c.p_is) (ap (open_of x.acceptor) c.none) (ap (λ (w : Option ActingValue). is_some w) c.idle) majority
-      ∙ ap (λ (j : ℕ). choose x.nodes sv x.id d l j (best j (map proposal_in c.p.reported)) k) (sym (next_suc ∙ ap (λ (vs : List Value). suc (length vs)) u.known))
-      ∙ ap (λ (o : Option (Proposal Value)). choose x.nodes sv x.id d l i o k) best_here
-      ∙ ap (λ (w : Value). propose x.nodes x.id (effect.Adopts x.id i (length (events_of w))) d l i w k) c.v_is
+      ap (λ t. settle t x.nodes sv x.id d) (let t : turns ≡ suc (turns - 1) = omega (arith, may_p) in t)
+      ∙ turn_chooses x.nodes sv x.id d k (ap (λ o. role_of x.acceptor o (is_some x.acting)) c.p_is) (ap (open_of x.acceptor) c.none) (ap (λ w. is_some w) c.idle) majority
+      ∙ ap (λ j. choose x.nodes sv x.id d l j (best j (map proposal_in c.p.reported)) k) (sym (next_suc ∙ ap (λ vs. suc (length vs)) u.known))
+      ∙ ap (λ o. choose x.nodes sv x.id d l i o k) best_here
+      ∙ ap (λ w. propose x.nodes x.id (effect.Adopts x.id i (length (events_of w))) d l i w k) c.v_is
     where
       d : CallHere
       d = armed_with f (so_far records service past x before)
@@ -225,14 +225,14 @@ module _ {K : Type 0} {records : K → List (List ℕ)} (gives : K → List ℕ 
   opens_at : (y : NodeValue K) (before mid : Draft) (g : Going) → Opens records gives faults service past told i v x y before mid g
       → (k : CallHere → CallHere) → Comes records gives faults service past (λ d. propose x.nodes x.id told d l i v k) (λ d. k (led role_with d)) x y before mid g
   opens_at y before mid g opens =
-      subst (λ (o : Option ProposerValue). IfSome o (λ (q : ProposerValue). (k : CallHere → CallHere) → Comes records gives faults service past (λ d. propose x.nodes x.id told d (lead_of x.acceptor q (is_some x.acting)) i v k) (λ d. k (led (leading (lead_of x.acceptor q (is_some x.acting)) (Some (proposal_of q.ballot i v)) (x.id ∷ []) (is_some x.acting)) d)) x y before mid g))
+      subst (λ o. IfSome o (λ q. (k : CallHere → CallHere) → Comes records gives faults service past (λ d. propose x.nodes x.id told d (lead_of x.acceptor q (is_some x.acting)) i v k) (λ d. k (led (leading (lead_of x.acceptor q (is_some x.acting)) (Some (proposal_of q.ballot i v)) (x.id ∷ []) (is_some x.acting)) d)) x y before mid g))
       c.p_is opens
 
   -- a node that is down is kept
   down_node_kept : {y : NodeValue K} → IsSame x y → IsDown y → IsResting records service past y
   down_node_kept {y} same down = record {
-    id = (subst (λ (n : ℕ). 0 < n) (sym same.id) kept_so.id.0, let least = kept_so.id.1 in let id : y.id ≡ x.id = same.id in let nodes : y.nodes ≡ x.nodes = same.nodes in omega (arith, least));
-    few = subst (λ (n : ℕ). n ≤ most_nodes) (sym same.nodes) kept_so.few;
+    id = (subst (λ n. 0 < n) (sym same.id) kept_so.id.0, let least = kept_so.id.1 in let id : y.id ≡ x.id = same.id in let nodes : y.nodes ≡ x.nodes = same.nodes in omega (arith, least));
+    few = subst (λ n. n ≤ most_nodes) (sym same.nodes) kept_so.few;
     up = λ t. absurd (let d : y.up ≡ false = down.down in cc);
     reached = bare_reached service y.offset y.known down.bare;
     decoded = subst (HasDecoded service) (sym same.decoded) kept_so.decoded;
@@ -256,7 +256,7 @@ module _ {K : Type 0} {records : K → List (List ℕ)} (gives : K → List ℕ 
   adopt_stuck (inl s) = inl s
   adopt_stuck {y} {before} (inr b) =
       inr (breaks_as (settle_is before)
-      (subst (λ (o : Option ProposerValue). IfSome o (λ (q : ProposerValue). (k : CallHere → CallHere) → LosesFirst k → BreaksOff records gives faults service past (λ d. propose x.nodes x.id told d (lead_of x.acceptor q (is_some x.acting)) i v k) x y before)) c.p_is b
+      (subst (λ o. IfSome o (λ q. (k : CallHere → CallHere) → LosesFirst k → BreaksOff records gives faults service past (λ d. propose x.nodes x.id told d (lead_of x.acceptor q (is_some x.acting)) i v k) x y before)) c.p_is b
       (settles (turns - 1)) (settle_loses _ x.nodes x.id sv)))
 
   -- ---- the proposal is open
@@ -266,7 +266,7 @@ module _ {K : Type 0} {records : K → List (List ℕ)} (gives : K → List ℕ 
     y_at = record x { keeper = y.keeper; acceptor = accepting x.acceptor (record { instance = i; ballot = c.p.ballot; value = v }); proposer = Some (proposed c.p i) }
 
     y_is : y ≡ y_at
-    y_is = parts ∙ ap (λ (o : Option ProposerValue). record x { keeper = y.keeper; acceptor = accept_own o x.acceptor i v; proposer = option_map (λ (q : ProposerValue). proposed q i) o }) c.p_is
+    y_is = parts ∙ ap (λ o. record x { keeper = y.keeper; acceptor = accept_own o x.acceptor i v; proposer = option_map (λ q. proposed q i) o }) c.p_is
 
     comes_y : Comes records gives faults service past (λ d. propose x.nodes x.id told d l i v (settles (turns - 1))) (λ d. settles (turns - 1) (led role_with d)) x y before mid On
     comes_y = opens_at y before mid On opens (settles (turns - 1))
@@ -286,19 +286,19 @@ module _ {K : Type 0} {records : K → List (List ℕ)} (gives : K → List ℕ 
 
       role_y : (so_far records service past y mid).node.role ≡ role_with
       role_y =
-          ap (λ (n : NodeValue K). role_of n.acceptor n.proposer (is_some n.acting)) y_is
-          ∙ lead_opened x.acceptor c.p proposes.own (ap (λ (n : ℕ). nat_lt n 2) proposes.nodes_are ∙ few_own)
+          ap (λ n. role_of n.acceptor n.proposer (is_some n.acting)) y_is
+          ∙ lead_opened x.acceptor c.p proposes.own (ap (λ n. nat_lt n 2) proposes.nodes_are ∙ few_own)
 
       -- the model's node goes no further
       stops : (t : ℕ) {d : CallHere} → d.node.role ≡ role_with → settle t x.nodes sv x.id d ≡ d
       stops zero e = refl
       stops (suc t) {d} e =
-          ap (λ (r : Role Value). turn x.nodes sv x.id d r (settle t x.nodes sv x.id)) e
-          ∙ ap (λ (b : Bool). cond b (decide x.nodes sv x.id d (record { ballot = c.p.ballot; counted = c.p.promised; reported = map proposal_in c.p.reported; proposal = Some (proposal_of c.p.ballot i v); accepted_by = x.id ∷ []; active = is_some x.acting }) i v (settle t x.nodes sv x.id)) d) (bridges.majority_is own_counted ∙ few_own)
+          ap (λ r. turn x.nodes sv x.id d r (settle t x.nodes sv x.id)) e
+          ∙ ap (λ b. cond b (decide x.nodes sv x.id d (record { ballot = c.p.ballot; counted = c.p.promised; reported = map proposal_in c.p.reported; proposal = Some (proposal_of c.p.ballot i v); accepted_by = x.id ∷ []; active = is_some x.acting }) i v (settle t x.nodes sv x.id)) d) (bridges.majority_is own_counted ∙ few_own)
 
       rests_y : (f : Option Failure) → settles (turns - 1) (led role_with (armed_with f (so_far records service past y mid))) ≡ armed_with f (so_far records service past y mid)
       rests_y f =
-          ap (λ (r : Role Value). settles (turns - 1) (led r (armed_with f (so_far records service past y mid)))) (sym role_y)
+          ap (λ r. settles (turns - 1) (led r (armed_with f (so_far records service past y mid)))) (sym role_y)
           ∙ stops _ role_y
 
       pub adopt_rests : GoesRound records gives faults service past turns x y before mid (Done On)
@@ -314,9 +314,9 @@ module _ {K : Type 0} {records : K → List (List ℕ)} (gives : K → List ℕ 
         where
           has_gone : HasGoneOn y.proposer (is_some y.acting)
           has_gone =
-              subst (λ (n : NodeValue K). HasGoneOn n.proposer (is_some n.acting)) (sym y_is)
-              (subst (λ (w : Option ActingValue). HasGoneOn (Some (proposed c.p i)) (is_some w)) (sym c.idle)
-              (subst (λ (q : ProposerValue). HasGoneOn (Some q) false) (sym (opened_is c.p i ∙ ap (λ (b : Bool). opened_by b c.p i) (ap (λ (n : ℕ). nat_lt n 2) proposes.nodes_are ∙ few_own))) (ap not c.many)))
+              subst (λ n. HasGoneOn n.proposer (is_some n.acting)) (sym y_is)
+              (subst (λ w. HasGoneOn (Some (proposed c.p i)) (is_some w)) (sym c.idle)
+              (subst (λ q. HasGoneOn (Some q) false) (sym (opened_is c.p i ∙ ap (λ b. opened_by b c.p i) (ap (λ n. nat_lt n 2) proposes.nodes_are ∙ few_own))) (ap not c.many)))
 
     -- ---- alone it is a majority
 
@@ -328,13 +328,13 @@ module _ {K : Type 0} {records : K → List (List ℕ)} (gives : K → List ℕ 
       more = omega (arith, may_p, less)
 
       p_opened : proposed c.p i ≡ opened_by true c.p i
-      p_opened = opened_is c.p i ∙ ap (λ (b : Bool). opened_by b c.p i) (ap (λ (n : ℕ). nat_lt n 2) proposes.nodes_are ∙ one)
+      p_opened = opened_is c.p i ∙ ap (λ b. opened_by b c.p i) (ap (λ n. nat_lt n 2) proposes.nodes_are ∙ one)
 
       -- the model's node decides it
       decides : (d : CallHere) → settles (turns - 1) (led role_with d) ≡ decide x.nodes sv x.id d l i v (settles (turns - 2))
       decides d =
-          ap (λ (t : ℕ). settles t (led role_with d)) more
-          ∙ ap (λ (b : Bool). cond b (decide x.nodes sv x.id (led role_with d) (record { ballot = c.p.ballot; counted = c.p.promised; reported = map proposal_in c.p.reported; proposal = Some (proposal_of c.p.ballot i v); accepted_by = x.id ∷ []; active = is_some x.acting }) i v (settles (turns - 2))) (led role_with d))
+          ap (λ t. settles t (led role_with d)) more
+          ∙ ap (λ b. cond b (decide x.nodes sv x.id (led role_with d) (record { ballot = c.p.ballot; counted = c.p.promised; reported = map proposal_in c.p.reported; proposal = Some (proposal_of c.p.ballot i v); accepted_by = x.id ∷ []; active = is_some x.acting }) i v (settles (turns - 2))) (led role_with d))
           (bridges.majority_is own_counted ∙ one)
           ∙ decide_led x.nodes sv x.id d l role_with (Some (proposal_of c.p.ballot i v)) (x.id ∷ []) i v (settles (turns - 2))
 
@@ -345,23 +345,23 @@ module _ {K : Type 0} {records : K → List (List ℕ)} (gives : K → List ℕ 
       alone_up = comes_y.2
 
       pub alone_leads : IsSome y.proposer
-      alone_leads = subst (λ (n : NodeValue K). IsSome n.proposer) (sym y_is) refl
+      alone_leads = subst (λ n. IsSome n.proposer) (sym y_is) refl
 
       pub alone_next : i ≡ length y.known + 1
-      alone_next = subst (λ (n : NodeValue K). i ≡ length n.known + 1) (sym y_is) next
+      alone_next = subst (λ n. i ≡ length n.known + 1) (sym y_is) next
 
       pub alone_cut : IsOwnCut service y v
-      alone_cut = subst (λ (n : NodeValue K). IsOwnCut service n v) (sym y_is) chosen_cut
+      alone_cut = subst (λ n. IsOwnCut service n v) (sym y_is) chosen_cut
 
       pub alone_count : faults x.keeper < 2 ^ 64 - 1 → faults y.keeper < 2 ^ 64 - 1
-      alone_count h = subst (λ (n : ℕ). n < 2 ^ 64 - 1) (sym leads_y.counted) h
+      alone_count h = subst (λ n. n < 2 ^ 64 - 1) (sym leads_y.counted) h
 
       -- what it knows then runs on
       pub alone_fits : RunsOn service (settles turns) (so_far records service past x before) → values_fit service (y.known ++ v ∷ []) ≡ true
       alone_fits runs =
-          subst (λ (vs : List Value). values_fit service (vs ++ v ∷ []) ≡ true) (sym (alone_kept.up alone_up).known)
+          subst (λ vs. values_fit service (vs ++ v ∷ []) ≡ true) (sym (alone_kept.up alone_up).known)
           (fits_before good checked (settle_learns x.nodes sv x.id _ d)
-          (subst (λ (e : CallHere). values_fit service (known e.node.log) ≡ true) (decides (so_far records service past y mid)) (rest_runs past x y before mid leads_y runs)))
+          (subst (λ e. values_fit service (known e.node.log) ≡ true) (decides (so_far records service past y mid)) (rest_runs past x y before mid leads_y runs)))
         where
           d : CallHere
           d = send (learned sv x.id l i v (known (so_far records service past y mid).node.log) (logged (Known i v) None (so_far records service past y mid))) (others x.nodes x.id (Chose i v))
@@ -371,14 +371,14 @@ module _ {K : Type 0} {records : K → List (List ℕ)} (gives : K → List ℕ 
       learns_at : (z : NodeValue K) (after : Draft) (g : Going) → Learns records gives faults service past i v y z mid after g
           → (k : CallHere → CallHere) → Comes records gives faults service past (λ d. decide x.nodes sv x.id d l i v k) k y z mid after g
       learns_at z after g learns =
-          subst (λ (q : ProposerValue). (k : CallHere → CallHere) → Comes records gives faults service past (λ d. decide x.nodes sv x.id d (lead_of (accepting x.acceptor (record { instance = i; ballot = c.p.ballot; value = v })) q (is_some x.acting)) i v k) k y z mid after g) p_opened
-          (subst (λ (n : NodeValue K). FromLead n (λ m. (k : CallHere → CallHere) → Comes records gives faults service past (λ d. decide n.nodes (service_of service n.seed) n.id d m i v k) k y z mid after g)) y_is learns)
+          subst (λ q. (k : CallHere → CallHere) → Comes records gives faults service past (λ d. decide x.nodes sv x.id d (lead_of (accepting x.acceptor (record { instance = i; ballot = c.p.ballot; value = v })) q (is_some x.acting)) i v k) k y z mid after g) p_opened
+          (subst (λ n. FromLead n (λ m. (k : CallHere → CallHere) → Comes records gives faults service past (λ d. decide n.nodes (service_of service n.seed) n.id d m i v k) k y z mid after g)) y_is learns)
 
       broken_at : {z : NodeValue K} → FromLead y (λ m. (k : CallHere → CallHere) → LosesFirst k → BreaksOff records gives faults service past (λ d. decide y.nodes (service_of service y.seed) y.id d m i v k) y z mid)
           → (k : CallHere → CallHere) → LosesFirst k → BreaksOff records gives faults service past (λ d. decide x.nodes sv x.id d l i v k) y z mid
       broken_at {z} b =
-          subst (λ (q : ProposerValue). (k : CallHere → CallHere) → LosesFirst k → BreaksOff records gives faults service past (λ d. decide x.nodes sv x.id d (lead_of (accepting x.acceptor (record { instance = i; ballot = c.p.ballot; value = v })) q (is_some x.acting)) i v k) y z mid) p_opened
-          (subst (λ (n : NodeValue K). FromLead n (λ m. (k : CallHere → CallHere) → LosesFirst k → BreaksOff records gives faults service past (λ d. decide n.nodes (service_of service n.seed) n.id d m i v k) y z mid)) y_is b)
+          subst (λ q. (k : CallHere → CallHere) → LosesFirst k → BreaksOff records gives faults service past (λ d. decide x.nodes sv x.id d (lead_of (accepting x.acceptor (record { instance = i; ballot = c.p.ballot; value = v })) q (is_some x.acting)) i v k) y z mid) p_opened
+          (subst (λ n. FromLead n (λ m. (k : CallHere → CallHere) → LosesFirst k → BreaksOff records gives faults service past (λ d. decide n.nodes (service_of service n.seed) n.id d m i v k) y z mid)) y_is b)
 
       -- up to where the model decides
       leads_decide : Leads records gives faults service (settles turns) (λ d. decide x.nodes sv x.id d l i v (settles (turns - 2))) x.keeper y.keeper (so_far records service past x before) (so_far records service past y mid)
@@ -391,7 +391,7 @@ module _ {K : Type 0} {records : K → List (List ℕ)} (gives : K → List ℕ 
           let o = learns_at z after Down learns (settles (turns - 2)) in (
             (
               leads_fell records gives faults service leads_decide
-                  (subst (λ (n : ℕ). Fell records gives faults service (λ d. decide x.nodes sv x.id d l i v (settles (turns - 2))) n y.keeper z.keeper (so_far records service past y mid) (so_far records service past z after)) (ap (λ (n : NodeValue K). n.id) y_is) o.0),
+                  (subst (λ n. Fell records gives faults service (λ d. decide x.nodes sv x.id d l i v (settles (turns - 2))) n y.keeper z.keeper (so_far records service past y mid) (so_far records service past z after)) (ap (λ n. n.id) y_is) o.0),
               o.1,
             ),
             down_node_kept same o.1,
@@ -413,21 +413,21 @@ module _ {K : Type 0} {records : K → List (List ℕ)} (gives : K → List ℕ 
           ((leads_then records gives faults service leads_decide o.0, o.1, o.2), may_z, free_z, omega (arith, may_p, less), omega (arith, longer, longer_z))
         where
           z_is : z ≡ record (knowing service y_at i v) { keeper = z.keeper }
-          z_is = parts_z ∙ ap (λ (n : NodeValue K). record (knowing service n i v) { keeper = z.keeper }) y_is
+          z_is = parts_z ∙ ap (λ n. record (knowing service n i v) { keeper = z.keeper }) y_is
 
           many : length (x.known ++ v ∷ []) ≡ suc (length x.known)
           many = length_push x.known v
 
           free_z : IsFree z.proposer (is_some z.acting)
           free_z =
-              subst (λ (n : NodeValue K). IsFree n.proposer (is_some n.acting)) (sym z_is)
-              (subst (λ (w : Option ActingValue). IsFree (Some (closed (proposed c.p i))) (is_some (option_map (settling service) w))) (sym c.idle) (refl, λ t. absurd (cc)))
+              subst (λ n. IsFree n.proposer (is_some n.acting)) (sym z_is)
+              (subst (λ w. IsFree (Some (closed (proposed c.p i))) (is_some (option_map (settling service) w))) (sym c.idle) (refl, λ t. absurd (cc)))
 
           may_z : MayGoOn z (turns - 2)
           may_z =
-              subst (λ (n : NodeValue K). MayGoOn n (turns - 2)) (sym z_is)
-              (subst (λ (q : ProposerValue). 2 * above (length (x.known ++ v ∷ [])) q.reported + 1 ≤ turns - 2) (sym p_opened)
-              (subst (λ (n : ℕ). 2 * above n c.p.reported + 1 ≤ turns - 2) (sym many) (omega (arith, may_p, less))))
+              subst (λ n. MayGoOn n (turns - 2)) (sym z_is)
+              (subst (λ q. 2 * above (length (x.known ++ v ∷ [])) q.reported + 1 ≤ turns - 2) (sym p_opened)
+              (subst (λ n. 2 * above n c.p.reported + 1 ≤ turns - 2) (sym many) (omega (arith, may_p, less))))
 
 -- ---- the same of the call
 
@@ -435,11 +435,11 @@ module _ {K : Type 0} {records : K → List (List ℕ)} (gives : K → List ℕ 
 pub opens_as : {K : Type 0} (records : K → List (List ℕ)) (gives : K → List ℕ → Answer → K → Type 0) (faults : K → ℕ) (service : Declarations) (past : List Value) (x y : NodeValue K) (before mid : Draft) (i : ℕ) (v : Value) {said named : Effect} {g h : Going}
     → said ≡ named → g ≡ h → Opens records gives faults service past said i v x y before mid g → Opens records gives faults service past named i v x y before mid h
 opens_as records gives faults service past x y before mid i v {named} {g} e s opens =
-    subst (λ (t : Going). Opens records gives faults service past named i v x y before mid t) s (subst (λ (t : Effect). Opens records gives faults service past t i v x y before mid g) e opens)
+    subst (λ t. Opens records gives faults service past named i v x y before mid t) s (subst (λ t. Opens records gives faults service past t i v x y before mid g) e opens)
 
 pub opens_short_as : {K : Type 0} {records : K → List (List ℕ)} {gives : K → List ℕ → Answer → K → Type 0} {faults : K → ℕ} (service : Declarations) (past : List Value) {x y : NodeValue K} (before : Draft) (i : ℕ) (v : Value) {said named : Effect}
     → said ≡ named → OpensShort records gives faults service past said i v x y before → OpensShort records gives faults service past named i v x y before
-opens_short_as {records} {gives} {faults} service past {x} {y} before i v e short = subst (λ (t : Effect). OpensShort records gives faults service past t i v x y before) e short
+opens_short_as {records} {gives} {faults} service past {x} {y} before i v e short = subst (λ t. OpensShort records gives faults service past t i v x y before) e short
 
 pub parts_as : {K : Type 0} (x : NodeValue K) {y : NodeValue K} (i : ℕ) (v : Value) {g : Going} → g ≡ On → HasOpened x y i v g → y ≡ record (opened x i v) { keeper = y.keeper }
 parts_as x {y} i v s parts = subst (HasOpened x y i v) s parts
@@ -449,13 +449,13 @@ longer_as records x y s longer = subst (IsLonger records x y) s longer
 
 pub learns_as : {K : Type 0} (records : K → List (List ℕ)) (gives : K → List ℕ → Answer → K → Type 0) (faults : K → ℕ) (service : Declarations) (past : List Value) (x y : NodeValue K) (before mid : Draft) (i : ℕ) (v : Value) {g h : Going}
     → g ≡ h → Learns records gives faults service past i v x y before mid g → Learns records gives faults service past i v x y before mid h
-learns_as records gives faults service past x y before mid i v s learns = subst (λ (t : Going). Learns records gives faults service past i v x y before mid t) s learns
+learns_as records gives faults service past x y before mid i v s learns = subst (λ t. Learns records gives faults service past i v x y before mid t) s learns
 
 pub known_as : {K : Type 0} (service : Declarations) (x : NodeValue K) {y : NodeValue K} (i : ℕ) (v : Value) {g : Going} → g ≡ On → HasLearned service x y i v g → y ≡ record (knowing service x i v) { keeper = y.keeper }
 known_as service x {y} i v s parts = subst (HasLearned service x y i v) s parts
 
 pub told_is : {node id i events : ℕ} (v : Value) → node ≡ id → events ≡ length (events_of v) → (let e : Effect = effect.Adopts node i events in e) ≡ effect.Adopts id i (length (events_of v))
-told_is {id} {i} {events} v a b = ap (λ (n : ℕ). effect.Adopts n i events) a ∙ ap (effect.Adopts id i) b
+told_is {id} {i} {events} v a b = ap (λ n. effect.Adopts n i events) a ∙ ap (effect.Adopts id i) b
 
 pub same_then : {K : Type 0} {x y z : NodeValue K} → IsSame x y → IsSame y z → IsSame x z
 same_then h k = record { id = k.id ∙ h.id; nodes = k.nodes ∙ h.nodes; seed = k.seed ∙ h.seed; decoded = k.decoded ∙ h.decoded }

@@ -76,7 +76,7 @@ module _ {K : Type 0} (records : K → List (List ℕ)) (service : Declarations)
     known = u.known;
     base = u.base;
     old_base = u.old_base;
-    few = subst (λ (n : ℕ). n ≤ length x.known) (sym u.base) (subst (λ (vs : List Value). base (log_of service past (records x.keeper)) ≤ length vs) (sym u.known) (le_trans u.replayed.based u.replayed.replayed));
+    few = subst (λ n. n ≤ length x.known) (sym u.base) (subst (λ vs. base (log_of service past (records x.keeper)) ≤ length vs) (sym u.known) (le_trans u.replayed.based u.replayed.replayed));
     start = u.start;
     short = u.short;
     fits = u.fits;
@@ -105,8 +105,8 @@ module _ {K : Type 0} (records : K → List (List ℕ)) (service : Declarations)
     old_base = l.old_base;
     start = l.start;
     replayed = record {
-      based = subst (λ (n : ℕ). n ≤ x.replayed) l.base b.based;
-      replayed = subst (λ (vs : List Value). x.replayed ≤ length vs) l.known b.replayed;
+      based = subst (λ n. n ≤ x.replayed) l.base b.based;
+      replayed = subst (λ vs. x.replayed ≤ length vs) l.known b.replayed;
     };
     ahead = b.ahead;
     caught_up = b.caught_up;
@@ -115,19 +115,19 @@ module _ {K : Type 0} (records : K → List (List ℕ)) (service : Declarations)
     acting = b.acting;
     stamped = b.stamped;
     fits = l.fits;
-    numbers = record { log = l.numbers; role = subst (λ (vs : List Value). RoleFits (length vs) (here_of records service past x).role) l.known b.role };
+    numbers = record { log = l.numbers; role = subst (λ vs. RoleFits (length vs) (here_of records service past x).role) l.known b.role };
   }
 
   pub beside_of : IsUp service x (here_of records service past x) → Beside
   beside_of u = record {
-    based = subst (λ (n : ℕ). n ≤ x.replayed) (sym u.base) u.replayed.based;
-    replayed = subst (λ (vs : List Value). x.replayed ≤ length vs) (sym u.known) u.replayed.replayed;
+    based = subst (λ n. n ≤ x.replayed) (sym u.base) u.replayed.based;
+    replayed = subst (λ vs. x.replayed ≤ length vs) (sym u.known) u.replayed.replayed;
     ahead = u.ahead;
     caught_up = u.caught_up;
     proposer = u.proposer;
     acting = u.acting;
     stamped = u.stamped;
-    role = subst (λ (vs : List Value). RoleFits (length vs) (here_of records service past x).role) (sym u.known) u.numbers.role;
+    role = subst (λ vs. RoleFits (length vs) (here_of records service past x).role) (sym u.known) u.numbers.role;
   }
 
 module _ {K : Type 0} {service : Declarations} {x : NodeValue K} {log : List (Rec Value StateValue)} (h : IsLogged service x log) where
@@ -163,9 +163,9 @@ module _ {K : Type 0} {service : Declarations} {x : NodeValue K} {log : List (Re
     old_base = h.old_base;
     few = h.few;
     start = h.start;
-    short = All-append (λ (q : Kept). IsValue q.value) (below i x.acceptor.accepted) (p ∷ above i x.acceptor.accepted)
-        (All-filter _ (λ (q : Kept). IsValue q.value) x.acceptor.accepted h.short)
-        (All-cons (λ (q : Kept). IsValue q.value) p (above i x.acceptor.accepted) few (All-filter _ (λ (q : Kept). IsValue q.value) x.acceptor.accepted h.short));
+    short = All-append (λ q. IsValue q.value) (below i x.acceptor.accepted) (p ∷ above i x.acceptor.accepted)
+        (All-filter _ (λ q. IsValue q.value) x.acceptor.accepted h.short)
+        (All-cons (λ q. IsValue q.value) p (above i x.acceptor.accepted) few (All-filter _ (λ q. IsValue q.value) x.acceptor.accepted h.short));
     fits = h.fits;
     numbers = log_accepted log b i v fits there h.numbers;
   }
@@ -183,14 +183,14 @@ module _ {K : Type 0} {service : Declarations} {x : NodeValue K} {log : List (Re
     accepted = h.accepted;
     offset_is = h.offset_is;
     low = h.low;
-    known = ap (λ (vs : List Value). vs ++ v ∷ []) h.known;
+    known = ap (λ vs. vs ++ v ∷ []) h.known;
     base = h.base;
     old_base = h.old_base;
     few = omega (arith, h.few, length_push x.known v);
-    start = ap (λ (vs : List Value). run service (start_of service) (trace_of vs)) (take-append-le x.base x.known (v ∷ []) h.few) ∙ h.start;
+    start = ap (λ vs. run service (start_of service) (trace_of vs)) (take-append-le x.base x.known (v ∷ []) h.few) ∙ h.start;
     short = h.short;
     fits = fits;
-    numbers = log_known log i v (e ∙ ap (λ (vs : List Value). suc (length vs)) h.known) there h.numbers;
+    numbers = log_known log i v (e ∙ ap (λ vs. suc (length vs)) h.known) there h.numbers;
   }
 
 -- ---- an append of a call
@@ -218,10 +218,10 @@ module _ {K : Type 0} (records : K → List (List ℕ)) (gives : K → List ℕ 
       at : (k : K) (es : List Effect) (ms : List _) → log_of service past (records k) ≡ said ∷ old_log → y ≡ record x { keeper = k } → es ≡ before.effects.items → ms ≡ before.sends.items
           → record { node = here_of records service past y; sends = map (message_in past) ms; effects = es } ≡ logged said None (so_far records service past x before)
       at k es ms log parts effects sends =
-          ap (λ (z : NodeValue K). record { node = here_of records service past z; sends = map (message_in past) ms; effects = es }) parts
-          ∙ ap (λ (l : List (Rec Value StateValue)). record { node = record (here_of records service past x) { log = l }; sends = map (message_in past) ms; effects = es }) log
-          ∙ ap (λ (n : List _). record { node = record (here_of records service past x) { log = said ∷ old_log }; sends = map (message_in past) n; effects = es }) sends
-          ∙ ap (λ (e : List Effect). record { node = record (here_of records service past x) { log = said ∷ old_log }; sends = map (message_in past) before.sends.items; effects = e }) effects
+          ap (λ z. record { node = here_of records service past z; sends = map (message_in past) ms; effects = es }) parts
+          ∙ ap (λ l. record { node = record (here_of records service past x) { log = l }; sends = map (message_in past) ms; effects = es }) log
+          ∙ ap (λ n. record { node = record (here_of records service past x) { log = said ∷ old_log }; sends = map (message_in past) n; effects = es }) sends
+          ∙ ap (λ e. record { node = record (here_of records service past x) { log = said ∷ old_log }; sends = map (message_in past) before.sends.items; effects = e }) effects
 
   module _ {whole k : CallHere → CallHere} (is : (f : Option Failure) → whole (armed_with f (so_far records service past x before)) ≡ append f x.id said (armed_with f (so_far records service past x before)) k) where
     -- the call goes on as the model's append does
@@ -248,8 +248,8 @@ module _ {K : Type 0} (records : K → List (List ℕ)) (gives : K → List ℕ 
         at : (kept : Bool) (j : K) (es : List Effect) (ms : List _) → records j ≡ failed_records kept (records x.keeper) (record_bytes r) → y ≡ record (fallen x) { keeper = j } → es ≡ before.effects.items ++ effect.Down x.id ∷ [] → ms ≡ []
             → call_at (here_of records service past y) (map (message_in past) ms) es ≡ call_at (down_node (if kept then said ∷ old_log else old_log) None) [] (before.effects.items ++ effect.Down x.id ∷ [])
         at kept j es ms grown parts effects sends =
-            ap (λ (z : NodeValue K). call_at (here_of records service past z) (map (message_in past) ms) es) parts
-            ∙ ap (λ (l : List (Rec Value StateValue)). call_at (record (here_of records service past (fallen x)) { log = l }) (map (message_in past) ms) es) (ap (log_of service past) grown ∙ log_in kept)
-            ∙ ap (λ (b : ℕ). call_at (record (here_of records service past (fallen x)) { log = if kept then said ∷ old_log else old_log; replayed = b }) (map (message_in past) ms) es) (base_in kept)
-            ∙ ap (λ (n : List _). call_at (down_node (if kept then said ∷ old_log else old_log) None) (map (message_in past) n) es) sends
+            ap (λ z. call_at (here_of records service past z) (map (message_in past) ms) es) parts
+            ∙ ap (λ l. call_at (record (here_of records service past (fallen x)) { log = l }) (map (message_in past) ms) es) (ap (log_of service past) grown ∙ log_in kept)
+            ∙ ap (λ b. call_at (record (here_of records service past (fallen x)) { log = if kept then said ∷ old_log else old_log; replayed = b }) (map (message_in past) ms) es) (base_in kept)
+            ∙ ap (λ n. call_at (down_node (if kept then said ∷ old_log else old_log) None) (map (message_in past) n) es) sends
             ∙ ap (call_at (down_node (if kept then said ∷ old_log else old_log) None) []) effects

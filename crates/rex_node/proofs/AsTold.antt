@@ -31,7 +31,7 @@ none_kept (sent.Snapshot k bytes) kept = inl refl
 module _ {K : Type 0} (records : K → List (List ℕ)) where
   -- the same keeper has the same records
   pub then_kept : (c : Content) (kept : List (List ℕ)) (x y : NodeValue K) → y.keeper ≡ x.keeper → KeepsAsTold c kept (records x.keeper) → KeepsAsTold c kept (records y.keeper)
-  then_kept c kept x y same h = subst (λ (k : K). KeepsAsTold c kept (records k)) (sym same) h
+  then_kept c kept x y same h = subst (λ k. KeepsAsTold c kept (records k)) (sym same) h
 
   -- an append of the record that holds the message's own bytes
   pub append_kept : (faults : K → ℕ) (gives : K → List ℕ → Answer → K → Type 0) (x y : NodeValue K) (before mid : Draft) (k : ℕ) (bytes : List ℕ) (going : Going)
@@ -45,11 +45,11 @@ module _ {K : Type 0} (records : K → List (List ℕ)) where
 
   -- the end of a call changes no records
   pub finish_keeps : (before : ℕ) (draft : Draft) (end : Result Going AllocError) (y z : NodeValue K) (result : Result Step Refusal) → Finishes records before draft end y z result → z.keeper ≡ y.keeper
-  finish_keeps before draft (Ok going) y z (Ok step) h = ap (λ (n : NodeValue K). n.keeper) h.0
+  finish_keeps before draft (Ok going) y z (Ok step) h = ap (λ n. n.keeper) h.0
   finish_keeps before draft (Ok going) y z (Err refusal) h = absurd h
   finish_keeps before draft (Err e) y z (Ok step) h = absurd h
   finish_keeps before draft (Err e) y z (Err refusal) h = by (cases_lt before (length (records y.keeper)))
     where
       by : (before < length (records y.keeper)) ⊎ (length (records y.keeper) ≤ before) → z.keeper ≡ y.keeper
-      by (inl more) = ap (λ (n : NodeValue K). n.keeper) (h.1 more)
-      by (inr few) = ap (λ (n : NodeValue K). n.keeper) (h.2 few)
+      by (inl more) = ap (λ n. n.keeper) (h.1 more)
+      by (inr few) = ap (λ n. n.keeper) (h.2 few)

@@ -31,7 +31,7 @@ module _ {K : Type 0} (records : K → List (List ℕ)) {service : Declarations}
       → here_of records service past (record x { acting = Some (next_work service a e) }) ≡ (takes.take_event service e (begin (here_of records service past x))).node
   one_leads {x} {a} e node due has_a =
       given_leads refl node o due has_a _ refl
-      ∙ ap (λ (t : Turn). (takes.taken t (begin (here_of records service past x))).node) (given_of_node {z = x} refl node o due has_a e)
+      ∙ ap (λ t. (takes.taken t (begin (here_of records service past x))).node) (given_of_node {z = x} refl node o due has_a e)
 
   one_stays : {x : NodeValue K} {a : ActingValue} (e : Event) → IsResting records service past x → if_up x.up o ≡ None → Some a ≡ x.acting → StaysResting records service past x (record x { acting = Some (next_work service a e) })
   one_stays {x} {a} e node due has_a =
@@ -40,14 +40,14 @@ module _ {K : Type 0} (records : K → List (List ℕ)) {service : Declarations}
 
   takes_each : (x : NodeValue K) {a : ActingValue} (es : List Event) → IsResting records service past x → if_up x.up o ≡ None → Some a ≡ x.acting → TakesEach records service past x es (given_all service a es)
   takes_each x [] node due has_a = record {
-    leads = ap (λ (w : Option ActingValue). here_of records service past (record x { acting = w })) has_a;
-    stays = record { same = record { id = refl; nodes = refl; seed = refl; decoded = refl }; kept = subst (λ (w : Option ActingValue). IsResting records service past (record x { acting = w })) (sym has_a) node };
+    leads = ap (λ w. here_of records service past (record x { acting = w })) has_a;
+    stays = record { same = record { id = refl; nodes = refl; seed = refl; decoded = refl }; kept = subst (λ w. IsResting records service past (record x { acting = w })) (sym has_a) node };
   }
   takes_each x {a} (e ∷ es) node due has_a =
       let rest : TakesEach records service past (record x { acting = Some (next_work service a e) }) es (given_all service (next_work service a e) es) =
       takes_each (record x { acting = Some (next_work service a e) }) es (one_stays e node due has_a).kept due refl in
       record {
-        leads = rest.leads ∙ ap (λ (h : Here). (take_each service es (begin h)).node) (one_leads e node due has_a);
+        leads = rest.leads ∙ ap (λ h. (take_each service es (begin h)).node) (one_leads e node due has_a);
         stays = record { same = record { id = rest.stays.same.id; nodes = rest.stays.same.nodes; seed = rest.stays.same.seed; decoded = rest.stays.same.decoded }; kept = rest.stays.kept };
       }
 
@@ -55,15 +55,15 @@ module _ {K : Type 0} (records : K → List (List ℕ)) {service : Declarations}
 
 module _ {K : Type 0} {records : K → List (List ℕ)} {service : Declarations} {past : List Value} {x z : NodeValue K} {a : ActingValue} (z_is : z ≡ x) (node : IsResting records service past x) (o : Option Refusal) (due : if_up x.up o ≡ None) (e : Some a ≡ z.acting) (good : IsService service) (es : List Event) {b : ActingValue} (b_is : b ≡ given_all service a es) where
   each : TakesEach records service past x es (given_all service a es)
-  each = takes_each records past good o x es node due (e ∙ ap (λ (n : NodeValue K). n.acting) z_is)
+  each = takes_each records past good o x es node due (e ∙ ap (λ n. n.acting) z_is)
 
   pub block_leads : LeadsTo (take_each service es) (here_of records service past x) (here_of records service past (record z { acting = Some b }))
   block_leads =
-      ap (λ (n : NodeValue K). here_of records service past (record n { acting = Some b })) z_is
-      ∙ ap (λ (c : ActingValue). here_of records service past (record x { acting = Some c })) b_is
+      ap (λ n. here_of records service past (record n { acting = Some b })) z_is
+      ∙ ap (λ c. here_of records service past (record x { acting = Some c })) b_is
       ∙ each.leads
 
   pub block_stays : StaysResting records service past x (record z { acting = Some b })
   block_stays =
-      subst (λ (n : NodeValue K). StaysResting records service past x (record n { acting = Some b })) (sym z_is)
-      (subst (λ (c : ActingValue). StaysResting records service past x (record x { acting = Some c })) (sym b_is) each.stays)
+      subst (λ n. StaysResting records service past x (record n { acting = Some b })) (sym z_is)
+      (subst (λ c. StaysResting records service past x (record x { acting = Some c })) (sym b_is) each.stays)

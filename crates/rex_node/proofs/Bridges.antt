@@ -85,17 +85,17 @@ majority_is {nodes} {xs} h = ap (λ c. nat_lt nodes (2 * c)) (count_of xs h)
 none_best : {i : ℕ} (ps : List Kept) → HasNone i ps → best i (map proposal_in ps) ≡ None
 none_best [] h = refl
 none_best {i} (p ∷ ps) h =
-    ap (λ t. cond t (better (proposal_in p) (best i (map proposal_in ps))) (best i (map proposal_in ps))) (ne_eqb p.instance i (All-head (λ (q : Kept). q.instance ≡ i → ⊥) p ps h))
-    ∙ none_best ps (All-tail (λ (q : Kept). q.instance ≡ i → ⊥) p ps h)
+    ap (λ t. cond t (better (proposal_in p) (best i (map proposal_in ps))) (best i (map proposal_in ps))) (ne_eqb p.instance i (All-head (λ q. q.instance ≡ i → ⊥) p ps h))
+    ∙ none_best ps (All-tail (λ q. q.instance ≡ i → ⊥) p ps h)
 
 -- one is at least as good as those after it
 best_first : {i : ℕ} {b : Kept} (ps : List Kept) → All (λ (p : Kept). p.instance ≡ i → p.ballot ≤ b.ballot) ps → better (proposal_in b) (best i (map proposal_in ps)) ≡ Some (proposal_in b)
 best_first [] h = refl
 best_first {i} {b} (p ∷ ps) h =
-    go (eqb p.instance i) refl (best i (map proposal_in ps)) (best_first ps (All-tail (λ (q : Kept). q.instance ≡ i → q.ballot ≤ b.ballot) p ps h))
+    go (eqb p.instance i) refl (best i (map proposal_in ps)) (best_first ps (All-tail (λ q. q.instance ≡ i → q.ballot ≤ b.ballot) p ps h))
   where
     least : p.instance ≡ i → p.ballot ≤ b.ballot
-    least = All-head (λ (q : Kept). q.instance ≡ i → q.ballot ≤ b.ballot) p ps h
+    least = All-head (λ q. q.instance ≡ i → q.ballot ≤ b.ballot) p ps h
 
     taken : (u : Bool) (q : Proposal Value) → p.ballot ≤ b.ballot → better (proposal_in b) (Some q) ≡ Some (proposal_in b) → better (proposal_in b) (cond u (Some (proposal_in p)) (Some q)) ≡ Some (proposal_in b)
     taken true q l e = ap (λ t. cond t (Some (proposal_in b)) (Some (proposal_in p))) (le-leb p.ballot b.ballot l)
@@ -110,10 +110,10 @@ best_first {i} {b} (p ∷ ps) h =
 best_after : {i : ℕ} {b : Kept} (before : List Kept) (rest : List (Proposal Value)) → All (λ (p : Kept). p.instance ≡ i → p.ballot < b.ballot) before → best i rest ≡ Some (proposal_in b) → best i (map proposal_in before ++ rest) ≡ Some (proposal_in b)
 best_after [] rest h e = e
 best_after {i} {b} (p ∷ ps) rest h e =
-    go (eqb p.instance i) refl (best i (map proposal_in ps ++ rest)) (best_after ps rest (All-tail (λ (q : Kept). q.instance ≡ i → q.ballot < b.ballot) p ps h) e)
+    go (eqb p.instance i) refl (best i (map proposal_in ps ++ rest)) (best_after ps rest (All-tail (λ q. q.instance ≡ i → q.ballot < b.ballot) p ps h) e)
   where
     less : p.instance ≡ i → p.ballot < b.ballot
-    less = All-head (λ (q : Kept). q.instance ≡ i → q.ballot < b.ballot) p ps h
+    less = All-head (λ q. q.instance ≡ i → q.ballot < b.ballot) p ps h
 
     go : (t : Bool) → eqb p.instance i ≡ t → (o : Option (Proposal Value)) → o ≡ Some (proposal_in b) → cond t (better (proposal_in p) o) o ≡ Some (proposal_in b)
     go false x o k = k

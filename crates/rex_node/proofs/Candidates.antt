@@ -94,9 +94,9 @@ module _ {K : Type 0} {records : K → List (List ℕ)} (gives : K → List ℕ 
   elect_is f d e =
       let l = left_is _ few_nodes left in
       let promised : x.acceptor.promised ≡ promise d.node.log = u.promised ∙ ap promise (sym e) in
-      ap (λ (p : ℕ). cond (nat_lt 4294967296 (round_of (ballot_above x.id p))) (say (effect.Spent x.id) d) (stand x.nodes (service_of service x.seed) x.id (ballot_above x.id p) d)) (sym promised)
-      ∙ ap (λ (t : Bool). cond t (say (effect.Spent x.id) d) (stand x.nodes (service_of service x.seed) x.id (ballot_above x.id x.acceptor.promised) d)) l.1
-      ∙ ap (λ (c : ℕ). stand x.nodes (service_of service x.seed) x.id c d) (sym l.0)
+      ap (λ p. cond (nat_lt 4294967296 (round_of (ballot_above x.id p))) (say (effect.Spent x.id) d) (stand x.nodes (service_of service x.seed) x.id (ballot_above x.id p) d)) (sym promised)
+      ∙ ap (λ t. cond t (say (effect.Spent x.id) d) (stand x.nodes (service_of service x.seed) x.id (ballot_above x.id x.acceptor.promised) d)) l.1
+      ∙ ap (λ c. stand x.nodes (service_of service x.seed) x.id c d) (sym l.0)
 
   pub stand_own : IsOwnBallot x.nodes b
   stand_own = record { few = node.few; own = subst (IsOneOf x.nodes) (sym least.own) (record { first = node.id.0; last = node.id.1 }) }
@@ -139,11 +139,11 @@ module _ {K : Type 0} {records : K → List (List ℕ)} (gives : K → List ℕ 
         reports_are =
             from_kept (length x.known + 1) x.acceptor.accepted
             ∙ ap (from_on (length x.known + 1)) u.accepted
-            ∙ ap (λ (n : ℕ). from_on n (accepted log)) (add-one (length x.known))
-            ∙ ap (λ (vs : List Value). from_on (suc (length vs)) (accepted log)) u.known
+            ∙ ap (λ n. from_on n (accepted log)) (add-one (length x.known))
+            ∙ ap (λ vs. from_on (suc (length vs)) (accepted log)) u.known
 
         lead_is : lead_of (promising x.acceptor b) (candidate_of x b) false ≡ candidacy x.id b log
-        lead_is = ap (λ (ps : List (Proposal Value)). record (candidacy x.id b log) { reported = ps }) reports_are
+        lead_is = ap (λ ps. record (candidacy x.id b log) { reported = ps }) reports_are
 
         lead_fits : LeadFits (length x.known) (candidacy x.id b log)
         lead_fits = record {
@@ -165,7 +165,7 @@ module _ {K : Type 0} {records : K → List (List ℕ)} (gives : K → List ℕ 
             promises = counted_push x.nodes [] x.id (counted_none x.nodes) (record { first = node.id.0; last = node.id.1 }) refl;
             acceptances = counted_none x.nodes;
           };
-          short = All-filter _ (λ (q : Kept). IsValue q.value) x.acceptor.accepted u.short;
+          short = All-filter _ (λ q. IsValue q.value) x.acceptor.accepted u.short;
           counted = λ _. refl;
           open_one = tt;
         }
@@ -189,28 +189,28 @@ module _ {K : Type 0} {records : K → List (List ℕ)} (gives : K → List ℕ 
 
         module _ {z : NodeValue K} (z_is : z ≡ standing y b) where
           all : z ≡ z_at
-          all = z_is ∙ ap (λ (n : NodeValue K). standing n b) h.0.parts
+          all = z_is ∙ ap (λ n. standing n b) h.0.parts
 
           pub stand_kept : IsKept records service past z
           stand_kept = subst (IsKept records service past) (sym all) z_kept
 
           -- no proposal is open
           pub stand_free : IsFree z.proposer (is_some z.acting)
-          stand_free = subst (λ (n : NodeValue K). IsFree n.proposer (is_some n.acting)) (sym all) (refl, λ t. absurd (false≢true t))
+          stand_free = subst (λ n. IsFree n.proposer (is_some n.acting)) (sym all) (refl, λ t. absurd (false≢true t))
 
           module _ {turns : ℕ} (turns_are : turns ≡ 2 * length (candidate_of y b).reported + 3) where
             turns_here : turns ≡ 2 * length (candidate_of x b).reported + 3
-            turns_here = turns_are ∙ ap (λ (n : NodeValue K). 2 * length (candidate_of n b).reported + 3) h.0.parts
+            turns_here = turns_are ∙ ap (λ n. 2 * length (candidate_of n b).reported + 3) h.0.parts
 
             pub stand_turns : IfSome z.proposer (λ (p : ProposerValue). 2 * above (length z.known) p.reported + 1 ≤ turns)
             stand_turns =
-                subst (λ (n : NodeValue K). IfSome n.proposer (λ (p : ProposerValue). 2 * above (length n.known) p.reported + 1 ≤ turns)) (sym all)
+                subst (λ n. IfSome n.proposer (λ p. 2 * above (length n.known) p.reported + 1 ≤ turns)) (sym all)
                 (omega (arith, above_most (length x.known) (candidate_of x b).reported, turns_here))
 
             module _ (after : Draft) (effects : after.effects.items ≡ mid.effects.items ++ effect.Candidate y.id b ∷ [])
                 (sends : map (message_in past) after.sends.items ≡ map (message_in past) mid.sends.items ++ others y.nodes y.id (content_in past (sent.Prepare b (length y.known + 1)))) where
               enough_is : enough (own_reports log) ≡ turns
-              enough_is = ap (λ (ps : List (Proposal Value)). 2 * length ps + 3) (sym reports_are) ∙ ap (λ (n : ℕ). 2 * n + 3) (length-map (candidate_of x b).reported proposal_in) ∙ sym turns_here
+              enough_is = ap (λ ps. 2 * length ps + 3) (sym reports_are) ∙ ap (λ n. 2 * n + 3) (length-map (candidate_of x b).reported proposal_in) ∙ sym turns_here
 
               here_is : here_of records service past z_at ≡ (with_role (Leading (candidacy x.id b log)) (logged (Promised b) None begun)).node
               here_is =
@@ -223,17 +223,17 @@ module _ {K : Type 0} {records : K → List (List ℕ)} (gives : K → List ℕ 
               sends_here : map (message_in past) after.sends.items ≡ map (message_in past) before.sends.items ++ others x.nodes x.id (Prepare b (suc (length (known log))))
               sends_here =
                   sends
-                  ∙ ap (λ (n : NodeValue K). map (message_in past) mid.sends.items ++ others n.nodes n.id (Prepare b (length n.known + 1))) h.0.parts
-                  ∙ ap (λ (ms : List _). map (message_in past) ms ++ others x.nodes x.id (Prepare b (length x.known + 1))) h.2
-                  ∙ ap (λ (n : ℕ). map (message_in past) before.sends.items ++ others x.nodes x.id (Prepare b n)) (add-one (length x.known) ∙ ap (λ (vs : List Value). suc (length vs)) u.known)
+                  ∙ ap (λ n. map (message_in past) mid.sends.items ++ others n.nodes n.id (Prepare b (length n.known + 1))) h.0.parts
+                  ∙ ap (λ ms. map (message_in past) ms ++ others x.nodes x.id (Prepare b (length x.known + 1))) h.2
+                  ∙ ap (λ n. map (message_in past) before.sends.items ++ others x.nodes x.id (Prepare b n)) (add-one (length x.known) ∙ ap (λ vs. suc (length vs)) u.known)
 
               effects_here : after.effects.items ≡ before.effects.items ++ effect.Candidate x.id b ∷ []
-              effects_here = effects ∙ ap (λ (n : NodeValue K). mid.effects.items ++ effect.Candidate n.id b ∷ []) h.0.parts ∙ ap (λ (es : List Effect). es ++ effect.Candidate x.id b ∷ []) h.1
+              effects_here = effects ∙ ap (λ n. mid.effects.items ++ effect.Candidate n.id b ∷ []) h.0.parts ∙ ap (λ es. es ++ effect.Candidate x.id b ∷ []) h.1
 
               stands_as : so_far records service past z_at after ≡ send (say (effect.Candidate x.id b) (with_role (Leading (candidacy x.id b log)) (logged (Promised b) None begun))) (others x.nodes x.id (Prepare b (suc (length (known log)))))
               stands_as =
                   far records service past z_at after effects_here sends_here
-                  ∙ ap (λ (n : Here). call_at n (map (message_in past) before.sends.items ++ others x.nodes x.id (Prepare b (suc (length (known log))))) (before.effects.items ++ effect.Candidate x.id b ∷ [])) here_is
+                  ∙ ap (λ n. call_at n (map (message_in past) before.sends.items ++ others x.nodes x.id (Prepare b (suc (length (known log))))) (before.effects.items ++ effect.Candidate x.id b ∷ [])) here_is
 
               abbrev rest : CallHere → CallHere
               rest = settle turns x.nodes (service_of service x.seed) x.id
@@ -246,13 +246,13 @@ module _ {K : Type 0} {records : K → List (List ℕ)} (gives : K → List ℕ 
                 where
                   comes : (f : Option Failure) → then_on (armed_with f (so_far records service past y mid)) ≡ rest (armed_with f (so_far records service past z_at after))
                   comes f =
-                      ap (λ (d : CallHere). then_on (armed_with f d)) (appended_here records gives faults service past x y before mid spelled tt refl h)
-                      ∙ ap (λ (n : ℕ). settle n x.nodes (service_of service x.seed) x.id (armed_with f (send (say (effect.Candidate x.id b) (with_role (Leading (candidacy x.id b log)) (logged (Promised b) None begun))) (others x.nodes x.id (Prepare b (suc (length (known log)))))))) enough_is
-                      ∙ ap (λ (d : CallHere). rest (armed_with f d)) (sym stands_as)
+                      ap (λ d. then_on (armed_with f d)) (appended_here records gives faults service past x y before mid spelled tt refl h)
+                      ∙ ap (λ n. settle n x.nodes (service_of service x.seed) x.id (armed_with f (send (say (effect.Candidate x.id b) (with_role (Leading (candidacy x.id b log)) (logged (Promised b) None begun))) (others x.nodes x.id (Prepare b (suc (length (known log)))))))) enough_is
+                      ∙ ap (λ d. rest (armed_with f d)) (sym stands_as)
 
               pub stand_runs : RunsOn service whole begun → RunsOn service (settle turns z.nodes (service_of service z.seed) z.id) (so_far records service past z after)
               stand_runs r =
-                  subst (λ (n : NodeValue K). RunsOn service (settle turns n.nodes (service_of service n.seed) n.id) (so_far records service past n after)) (sym all)
+                  subst (λ n. RunsOn service (settle turns n.nodes (service_of service n.seed) n.id) (so_far records service past n after)) (sym all)
                   (rest_runs past x z_at before after stand_leads r)
 
               pub stand_short : (w : NodeValue K) (end : Result Going AllocError) → OnErr end (IsStuck records gives faults service past (settle turns z.nodes (service_of service z.seed) z.id) z w after) → OnErr end (IsStuck records gives faults service past whole x w before)
@@ -260,13 +260,13 @@ module _ {K : Type 0} {records : K → List (List ℕ)} (gives : K → List ℕ 
               stand_short w (Err e) s =
                   inr (breaks_after z_at w after stand_leads (omega (arith, ap length h.0.records, length_push (records x.keeper) (record_bytes (kept.Promised b)))) (z_kept.up up).base
                   (settle_loses turns x.nodes x.id (service_of service x.seed))
-                  (subst (λ (n : NodeValue K). IsStuck records gives faults service past (settle turns n.nodes (service_of service n.seed) n.id) n w after) all s))
+                  (subst (λ n. IsStuck records gives faults service past (settle turns n.nodes (service_of service n.seed) n.id) n w after) all s))
 
               pub stand_ends : (w : NodeValue K) (final : Draft) (end : Result Going AllocError) → IfOk end (Ends records gives faults service past (settle turns z.nodes (service_of service z.seed) z.id) z w after final)
                   → IfOk end (Ends records gives faults service past whole x w before final)
               stand_ends w final end e =
                   ends_if records gives faults service past whole rest x z_at w before after final end refl stand_leads
-                  (subst (λ (n : NodeValue K). IfOk end (Ends records gives faults service past (settle turns n.nodes (service_of service n.seed) n.id) n w after final)) all e)
+                  (subst (λ n. IfOk end (Ends records gives faults service past (settle turns n.nodes (service_of service n.seed) n.id) n w after final)) all e)
 
 -- ---- the end of an election
 

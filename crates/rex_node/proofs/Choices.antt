@@ -42,13 +42,13 @@ module _ {K : Type 0} {records : K → List (List ℕ)} (gives : K → List ℕ 
   spelled = record { in_range = (there, short) }
 
   next_here : i ≡ suc (length (known (here_of records service past x).log))
-  next_here = next ∙ ap (λ (vs : List Value). suc (length vs)) u.known
+  next_here = next ∙ ap (λ vs. suc (length vs)) u.known
 
   due : IsDue (standing_in (log_of service past (records x.keeper))) (kept.Known i v)
   due = omega (arith, next_here)
 
   chosen_is : (f : Option Failure) → on_chosen x.id i v (armed_with f (so_far records service past x before)) ≡ append f x.id (Known i v) (armed_with f (so_far records service past x before)) (λ e. follow x.id (effect.Known x.id i ∷ []) e)
-  chosen_is f = ap (λ (t : Bool). cond t takes ignores) (eq-eqb i (suc (length (known (here_of records service past x).log))) next_here)
+  chosen_is f = ap (λ t. cond t takes ignores) (eq-eqb i (suc (length (known (here_of records service past x).log))) next_here)
     where
       takes : CallHere
       takes = append f x.id (Known i v) (armed_with f (so_far records service past x before)) (λ e. follow x.id (effect.Known x.id i ∷ []) e)
@@ -66,8 +66,8 @@ module _ {K : Type 0} {records : K → List (List ℕ)} (gives : K → List ℕ 
   -- the value fits behind those that are known
   pub chosen_fits : RunsOn service (on_chosen x.id i v) (so_far records service past x before) → values_fit service (x.known ++ v ∷ []) ≡ true
   chosen_fits runs =
-      ap (λ (vs : List Value). values_fit service (vs ++ v ∷ [])) u.known
-      ∙ subst (λ (d : CallHere). values_fit service (known d.node.log) ≡ true) (chosen_is None) runs
+      ap (λ vs. values_fit service (vs ++ v ∷ [])) u.known
+      ∙ subst (λ d. values_fit service (known d.node.log) ≡ true) (chosen_is None) runs
 
   pub chosen_on : RunsOn service (on_chosen x.id i v) (so_far records service past x before) → Appends records faults gives x y before mid (record_bytes (kept.Known i v)) On → {z : NodeValue K} {after : Draft} → z ≡ record (leaving y) { known = y.known ++ v ∷ [] }
       → Tells mid after (effect.Known y.id i ∷ followed y.id (role_of y.acceptor y.proposer (is_some y.acting))) → EndsWell records gives faults service past x z before after chooses
@@ -78,7 +78,7 @@ module _ {K : Type 0} {records : K → List (List ℕ)} (gives : K → List ℕ 
       (follows_up gives faults y before mid node up spelled due refl refl h logged_here longer front z_here)
       (λ f. refl)
       (follows_to gives faults y before mid node up spelled due refl refl h logged_here longer front z_here
-      (subst (λ (j : ℕ). Tells mid after (effect.Known j i ∷ followed y.id (role_of y.acceptor y.proposer (is_some y.acting)))) (ap (λ (n : NodeValue K). n.id) h.0.parts) t))
+      (subst (λ j. Tells mid after (effect.Known j i ∷ followed y.id (role_of y.acceptor y.proposer (is_some y.acting)))) (ap (λ n. n.id) h.0.parts) t))
     where
       longer : length x.known ≤ length (x.known ++ v ∷ [])
       longer = omega (arith, length_push x.known v)
@@ -87,7 +87,7 @@ module _ {K : Type 0} {records : K → List (List ℕ)} (gives : K → List ℕ 
       front n l = take-append-le n x.known (v ∷ []) l
 
       z_here : z ≡ record (leaving x) { keeper = y.keeper; acceptor = x.acceptor; known = x.known ++ v ∷ [] }
-      z_here = z_is ∙ ap (λ (n : NodeValue K). record (leaving n) { known = n.known ++ v ∷ [] }) h.0.parts
+      z_here = z_is ∙ ap (λ n. record (leaving n) { known = n.known ++ v ∷ [] }) h.0.parts
 
       logged_here : IsLogged service (record x { keeper = y.keeper; acceptor = x.acceptor; known = x.known ++ v ∷ [] }) (Known i v ∷ log_of service past (records x.keeper))
       logged_here =
@@ -101,27 +101,27 @@ module _ {K : Type 0} {records : K → List (List ℕ)} (gives : K → List ℕ 
       → EndsWell records gives faults service past x x before after (on_ask x.id from first)
   asked_on late few effects sends =
       ends_same records gives faults service past x x before after refl node up
-      (λ f. ap (λ (t : Bool). cond t (answer_base x.id from (armed_with f (so_far records service past x before))) (cond (nat_lt (length (known (here_of records service past x).log)) first) (say effect.Nothing (armed_with f (so_far records service past x before))) (send (armed_with f (so_far records service past x before)) (take 64 (tell x.id from first 1 (known (here_of records service past x).log))))))
-      (lt-leb first (offset (here_of records service past x).log) (subst (λ (o : ℕ). o < first) (node.up up).offset late))
-      ∙ ap (λ (t : Bool). cond t (say effect.Nothing (armed_with f (so_far records service past x before))) (send (armed_with f (so_far records service past x before)) (take 64 (tell x.id from first 1 (known (here_of records service past x).log)))))
+      (λ f. ap (λ t. cond t (answer_base x.id from (armed_with f (so_far records service past x before))) (cond (nat_lt (length (known (here_of records service past x).log)) first) (say effect.Nothing (armed_with f (so_far records service past x before))) (send (armed_with f (so_far records service past x before)) (take 64 (tell x.id from first 1 (known (here_of records service past x).log))))))
+      (lt-leb first (offset (here_of records service past x).log) (subst (λ o. o < first) (node.up up).offset late))
+      ∙ ap (λ t. cond t (say effect.Nothing (armed_with f (so_far records service past x before))) (send (armed_with f (so_far records service past x before)) (take 64 (tell x.id from first 1 (known (here_of records service past x).log)))))
       (le-ltb (length (known (here_of records service past x).log)) first (omega (arith, few, ap length (node.up up).known)))
-      ∙ ap (λ (vs : List Value). send (armed_with f (so_far records service past x before)) (take 64 (tell x.id from first 1 vs))) (sym (node.up up).known)
+      ∙ ap (λ vs. send (armed_with f (so_far records service past x before)) (take 64 (tell x.id from first 1 vs))) (sym (node.up up).known)
       ∙ ap (armed_with f) (sym (far records service past x after effects sends)))
 
   -- it has no more than that
   pub asked_beyond : x.offset < first → length x.known < first → after.effects.items ≡ before.effects.items ++ effect.Nothing ∷ [] → after.sends.items ≡ before.sends.items → EndsWell records gives faults service past x x before after (on_ask x.id from first)
   asked_beyond late more effects sends =
       ends_same records gives faults service past x x before after refl node up
-      (λ f. ap (λ (t : Bool). cond t (answer_base x.id from (armed_with f (so_far records service past x before))) (cond (nat_lt (length (known (here_of records service past x).log)) first) (say effect.Nothing (armed_with f (so_far records service past x before))) (send (armed_with f (so_far records service past x before)) (take 64 (tell x.id from first 1 (known (here_of records service past x).log))))))
-      (lt-leb first (offset (here_of records service past x).log) (subst (λ (o : ℕ). o < first) (node.up up).offset late))
-      ∙ ap (λ (t : Bool). cond t (say effect.Nothing (armed_with f (so_far records service past x before))) (send (armed_with f (so_far records service past x before)) (take 64 (tell x.id from first 1 (known (here_of records service past x).log)))))
-      (lt-ltb (length (known (here_of records service past x).log)) first (subst (λ (vs : List Value). length vs < first) (node.up up).known more))
+      (λ f. ap (λ t. cond t (answer_base x.id from (armed_with f (so_far records service past x before))) (cond (nat_lt (length (known (here_of records service past x).log)) first) (say effect.Nothing (armed_with f (so_far records service past x before))) (send (armed_with f (so_far records service past x before)) (take 64 (tell x.id from first 1 (known (here_of records service past x).log))))))
+      (lt-leb first (offset (here_of records service past x).log) (subst (λ o. o < first) (node.up up).offset late))
+      ∙ ap (λ t. cond t (say effect.Nothing (armed_with f (so_far records service past x before))) (send (armed_with f (so_far records service past x before)) (take 64 (tell x.id from first 1 (known (here_of records service past x).log)))))
+      (lt-ltb (length (known (here_of records service past x).log)) first (subst (λ vs. length vs < first) (node.up up).known more))
       ∙ ap (armed_with f) (sym (far records service past x after effects (ap (map (message_in past)) sends))))
 
   -- or it doesn't hold the values any more
   pub asked_old : Begins (known (here_of records service past x).log) past → first ≤ x.offset → TellsBase service x from before after → EndsWell records gives faults service past x x before after (on_ask x.id from first)
   asked_old begins old t =
       ends_same records gives faults service past x x before after refl node up
-      (λ f. ap (λ (t : Bool). cond t (answer_base x.id from (armed_with f (so_far records service past x before))) (cond (nat_lt (length (known (here_of records service past x).log)) first) (say effect.Nothing (armed_with f (so_far records service past x before))) (send (armed_with f (so_far records service past x before)) (take 64 (tell x.id from first 1 (known (here_of records service past x).log))))))
-      (le-leb first (offset (here_of records service past x).log) (subst (λ (o : ℕ). first ≤ o) (node.up up).offset old))
+      (λ f. ap (λ t. cond t (answer_base x.id from (armed_with f (so_far records service past x before))) (cond (nat_lt (length (known (here_of records service past x).log)) first) (say effect.Nothing (armed_with f (so_far records service past x before))) (send (armed_with f (so_far records service past x before)) (take 64 (tell x.id from first 1 (known (here_of records service past x).log))))))
+      (le-leb first (offset (here_of records service past x).log) (subst (λ o. first ≤ o) (node.up up).offset old))
       ∙ ap (armed_with f) (sym (tells_base records (node.up up) begins t)))

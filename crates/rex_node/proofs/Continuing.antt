@@ -27,7 +27,7 @@ module _ {K : Type 0} (records : K → List (List ℕ)) (gives : K → List ℕ 
   ends_then Down id l h = (
     (
       leads_fell records gives faults service l
-          (subst (λ (i : ℕ). Fell records gives faults service rest i z.keeper w.keeper (so_far records service past z mid) (so_far records service past w after)) id h.0.0),
+          (subst (λ i. Fell records gives faults service rest i z.keeper w.keeper (so_far records service past z mid) (so_far records service past w after)) id h.0.0),
       h.0.1,
     ),
     h.1,

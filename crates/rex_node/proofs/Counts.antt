@@ -125,25 +125,25 @@ module _ (n : ℕ) (sv : Service Value StateValue) (me from b : ℕ) (ps : List 
   late candidate = cond (not candidate) (Some Late) again
 
   once_made : cond (is_in from p.promised) (say (effect.IgnoredAgain from) d) (hear n sv me (heard own from ps) d) ≡ made again
-  once_made = ap (λ (t : Bool). cond t (say (effect.IgnoredAgain from) d) (hear n sv me (heard own from ps) d)) (in_counted from _) ∙ go (is_counted from p.promised)
+  once_made = ap (λ t. cond t (say (effect.IgnoredAgain from) d) (hear n sv me (heard own from ps) d)) (in_counted from _) ∙ go (is_counted from p.promised)
     where
       go : (t : Bool) → cond t (say (effect.IgnoredAgain from) d) (hear n sv me (heard own from ps) d) ≡ made (cond t (Some (Again from)) None)
       go true = refl
       go false = refl
 
   active_made : (t : Bool) → is_candidate p ≡ not (t || false) → cond t (say effect.IgnoredLate d) (cond (is_in from p.promised) (say (effect.IgnoredAgain from) d) (hear n sv me (heard own from ps) d)) ≡ made (late (is_candidate p))
-  active_made true e = ap (λ (c : Bool). made (late c)) (sym e)
-  active_made false e = once_made ∙ ap (λ (c : Bool). made (late c)) (sym e)
+  active_made true e = ap (λ c. made (late c)) (sym e)
+  active_made false e = once_made ∙ ap (λ c. made (late c)) (sym e)
 
   own_made : (o : Option ℕ) → HasOpen a p.ballot o → is_candidate p ≡ not (active || is_some o) → on_own_promise n sv me from ps d own (open_of a o) ≡ made (late (is_candidate p))
   own_made None h e = active_made active e
   own_made (Some i) h e =
-      ap (λ (q : Option Kept). on_own_promise n sv me from ps d own (option_map proposal_in q)) h.1
-      ∙ ap (λ (c : Bool). made (late c)) (sym (e ∙ ap not (or_true active)))
+      ap (λ q. on_own_promise n sv me from ps d own (option_map proposal_in q)) h.1
+      ∙ ap (λ c. made (late c)) (sym (e ∙ ap not (or_true active)))
 
   pub promise_made : HasOpen a p.ballot p.open_instance → is_candidate p ≡ not (active || is_some p.open_instance) → on_promise n sv me from b ps d (Leading own) ≡ made (promise_refusal p b from)
   promise_made h e =
-      ap (λ (t : Bool). cond t (on_own_promise n sv me from ps d own (open_of a p.open_instance)) (say (effect.IgnoredBallot b p.ballot) d)) (nat_eq_equiv.symm p.ballot b)
+      ap (λ t. cond t (on_own_promise n sv me from ps d own (open_of a p.open_instance)) (say (effect.IgnoredBallot b p.ballot) d)) (nat_eq_equiv.symm p.ballot b)
       ∙ go (b == p.ballot)
     where
       go : (t : Bool) → cond t (on_own_promise n sv me from ps d own (open_of a p.open_instance)) (say (effect.IgnoredBallot b p.ballot) d) ≡ made (cond (not t) (Some (Ballot b p.ballot)) (late (is_candidate p)))
@@ -193,14 +193,14 @@ module _ {K : Type 0} {records : K → List (List ℕ)} (gives : K → List ℕ 
     begun = so_far records service past x before
 
     whole_at : (f : Option Failure) {o : Option ProposerValue} → x.proposer ≡ o → whole (armed_with f begun) ≡ on_promise x.nodes (service_of service x.seed) x.id from b (map proposal_in reported) (armed_with f begun) (role_of x.acceptor o (is_some x.acting))
-    whole_at f e = ap (λ (q : Option ProposerValue). on_promise x.nodes (service_of service x.seed) x.id from b (map proposal_in reported) (armed_with f begun) (role_of x.acceptor q (is_some x.acting))) e
+    whole_at f e = ap (λ q. on_promise x.nodes (service_of service x.seed) x.id from b (map proposal_in reported) (armed_with f begun) (role_of x.acceptor q (is_some x.acting))) e
 
     module _ {p : ProposerValue} (e : x.proposer ≡ Some p) where
       proposes : Proposes x.nodes x.id x.acceptor p
       proposes = subst (IsProposer x.nodes x.id x.acceptor) e u.proposer
 
       gone : is_candidate p ≡ not (is_some x.acting || is_some p.open_instance)
-      gone = subst (λ (o : Option ProposerValue). HasGoneOn o (is_some x.acting)) e (node.rests up)
+      gone = subst (λ o. HasGoneOn o (is_some x.acting)) e (node.rests up)
 
       made_is : (f : Option Failure) {r : Option Why} → promise_refusal p b from ≡ r → whole (armed_with f begun) ≡ made x.nodes (service_of service x.seed) x.id from b (map proposal_in reported) x.acceptor p (is_some x.acting) (armed_with f begun) r
       made_is f k =
@@ -213,22 +213,22 @@ module _ {K : Type 0} {records : K → List (List ℕ)} (gives : K → List ℕ 
     module _ {why : Why} (vote_is : vote_on x.proposer b from ≡ Ignored why) where
       same_at : (o : Option ProposerValue) → vote_on o b from ≡ Ignored why → option_map (λ (p : ProposerValue). promise_counted p b from reported) o ≡ o
       same_at None k = refl
-      same_at (Some p) k = ap (λ (r : Option Why). Some (with_promise r p from reported)) (ignored_is _ p.nodes _ k)
+      same_at (Some p) k = ap (λ r. Some (with_promise r p from reported)) (ignored_is _ p.nodes _ k)
 
       pub ignored_same : {z : NodeValue K} → z ≡ counting x b from reported → z ≡ x
-      ignored_same z_is = z_is ∙ ap (λ (o : Option ProposerValue). record x { proposer = o }) (same_at _ vote_is)
+      ignored_same z_is = z_is ∙ ap (λ o. record x { proposer = o }) (same_at _ vote_is)
 
       says_at : {f : Option Failure} (o : Option ProposerValue) → x.proposer ≡ o → vote_on o b from ≡ Ignored why → whole (armed_with f begun) ≡ armed_with f (say (told_of why) begun)
-      says_at {f} None e k = whole_at f e ∙ ap (λ (w : Why). say (told_of w) (armed_with f begun)) (let n : Ballot b 0 ≡ why = cc in n)
+      says_at {f} None e k = whole_at f e ∙ ap (λ w. say (told_of w) (armed_with f begun)) (let n : Ballot b 0 ≡ why = cc in n)
       says_at {f} (Some p) e k = made_is e f (ignored_is _ p.nodes _ k)
 
       pub promise_ignored : {z : NodeValue K} → z ≡ counting x b from reported → {told : Effect} → told ≡ told_of why → (after : Draft) → after.effects.items ≡ before.effects.items ++ told ∷ [] → after.sends.items ≡ before.sends.items
           → EndsWell records gives faults service past x z before after whole
       promise_ignored {z} z_is told_is after effects sends =
-          subst (λ (n : NodeValue K). EndsWell records gives faults service past x n before after whole) (sym (ignored_same z_is))
+          subst (λ n. EndsWell records gives faults service past x n before after whole) (sym (ignored_same z_is))
           (ends_same records gives faults service past x x before after refl node up
           (λ f. says_at _ refl vote_is
-          ∙ ap (armed_with f) (sym (far records service past x after (effects ∙ ap (λ (t : Effect). before.effects.items ++ t ∷ []) told_is) (ap (map (message_in past)) sends)))))
+          ∙ ap (armed_with f) (sym (far records service past x after (effects ∙ ap (λ t. before.effects.items ++ t ∷ []) told_is) (ap (map (message_in past)) sends)))))
 
     -- ---- one that is counted
 
@@ -242,8 +242,8 @@ module _ {K : Type 0} {records : K → List (List ℕ)} (gives : K → List ℕ 
       counted_at : {z : NodeValue K} → z ≡ counting x b from reported → z ≡ z_at
       counted_at z_is =
           z_is
-          ∙ ap (λ (o : Option ProposerValue). record x { proposer = option_map (λ (q : ProposerValue). promise_counted q b from reported) o }) e
-          ∙ ap (λ (r : Option Why). record x { proposer = Some (with_promise r p from reported) }) new
+          ∙ ap (λ o. record x { proposer = option_map (λ q. promise_counted q b from reported) o }) e
+          ∙ ap (λ r. record x { proposer = Some (with_promise r p from reported) }) new
 
       free : (is_some x.acting ≡ false) × (p.open_instance ≡ None)
       free = free_of _ _ (gone e) (no_second _ _ _ _ Late _ new)
@@ -251,20 +251,20 @@ module _ {K : Type 0} {records : K → List (List ℕ)} (gives : K → List ℕ 
       -- it is what the model leads with then
       heard_is : lead_of x.acceptor more (is_some x.acting) ≡ heard (lead_of x.acceptor p (is_some x.acting)) from (map proposal_in reported)
       heard_is =
-          ap (λ (t : Bool). lead_of x.acceptor more t) free.0
-          ∙ ap (λ (o : Option ℕ). record (lead_of x.acceptor more false) { proposal = open_of x.acceptor o }) free.1
-          ∙ ap (λ (ns : List ℕ). record (lead_of x.acceptor more false) { proposal = None; accepted_by = ns }) ((proposes e).counted free.1)
-          ∙ ap (λ (ps : List (Proposal Value)). record (lead_of x.acceptor more false) { proposal = None; accepted_by = []; reported = ps }) (map-append proposal_in p.reported reported)
+          ap (λ t. lead_of x.acceptor more t) free.0
+          ∙ ap (λ o. record (lead_of x.acceptor more false) { proposal = open_of x.acceptor o }) free.1
+          ∙ ap (λ ns. record (lead_of x.acceptor more false) { proposal = None; accepted_by = ns }) ((proposes e).counted free.1)
+          ∙ ap (λ ps. record (lead_of x.acceptor more false) { proposal = None; accepted_by = []; reported = ps }) (map-append proposal_in p.reported reported)
 
       counted : AreCounted p.nodes more.promised
-      counted = counted_push p.nodes _ from (proposes e).once.promises (subst (λ (n : ℕ). IsOneOf n from) (sym (proposes e).nodes_are) one_of) (new_promise p b from new)
+      counted = counted_push p.nodes _ from (proposes e).once.promises (subst (λ n. IsOneOf n from) (sym (proposes e).nodes_are) one_of) (new_promise p b from new)
 
       length_more : length more.promised ≡ length p.promised + 1
       length_more = length-append p.promised (from ∷ [])
 
       majority_same : {t : Bool} → counts.is_majority p.nodes (length p.promised + 1) ≡ t → is_majority x.nodes more.promised ≡ t
       majority_same k =
-          ap (λ (n : ℕ). is_majority n more.promised) (sym (proposes e).nodes_are)
+          ap (λ n. is_majority n more.promised) (sym (proposes e).nodes_are)
           ∙ majority_is counted
           ∙ ap (counts.is_majority p.nodes) length_more
           ∙ k
@@ -277,7 +277,7 @@ module _ {K : Type 0} {records : K → List (List ℕ)} (gives : K → List ℕ 
             own = h.own;
             ballot = h.ballot;
             once = record { own = h.once.own; promises = counted; acceptances = h.once.acceptances };
-            short = All-append (λ (q : Kept). IsValue q.value) p.reported reported h.short (All-weaker IsProposal (λ (q : Kept). IsValue q.value) (λ q k. k.value) reported all);
+            short = All-append (λ q. IsValue q.value) p.reported reported h.short (All-weaker IsProposal (λ q. IsValue q.value) (λ q k. k.value) reported all);
             counted = h.counted;
             open_one = h.open_one;
           }
@@ -302,9 +302,9 @@ module _ {K : Type 0} {records : K → List (List ℕ)} (gives : K → List ℕ 
             ahead = o.ahead;
             caught_up = o.caught_up;
             proposer = z_proposes;
-            acting = z_acting x.acting (subst (λ (q : Option ProposerValue). IsActing service x.known x.acceptor q x.acting) e o.acting);
+            acting = z_acting x.acting (subst (λ q. IsActing service x.known x.acceptor q x.acting) e o.acting);
             stamped = o.stamped;
-            role = z_role (subst (λ (q : Option ProposerValue). RoleFits (length x.known) (role_of x.acceptor q (is_some x.acting))) e o.role);
+            role = z_role (subst (λ q. RoleFits (length x.known) (role_of x.acceptor q (is_some x.acting))) e o.role);
           }
 
       z_kept : IsKept records service past z_at
@@ -312,7 +312,7 @@ module _ {K : Type 0} {records : K → List (List ℕ)} (gives : K → List ℕ 
 
       -- the call counts it
       hears_is : (f : Option Failure) → whole (armed_with f begun) ≡ hear x.nodes (service_of service x.seed) x.id (lead_of x.acceptor more (is_some x.acting)) (armed_with f begun)
-      hears_is f = made_is e f new ∙ ap (λ (l : Lead Value). hear x.nodes (service_of service x.seed) x.id l (armed_with f begun)) (sym heard_is)
+      hears_is f = made_is e f new ∙ ap (λ l. hear x.nodes (service_of service x.seed) x.id l (armed_with f begun)) (sym heard_is)
 
       -- ---- memory was short, and it is taken back
 
@@ -320,22 +320,22 @@ module _ {K : Type 0} {records : K → List (List ℕ)} (gives : K → List ℕ 
       stands_back {z} {w} {v} z_is s v_is = record {
         parts =
             v_is
-            ∙ ap (λ (n : NodeValue K). uncounting n (length reported)) s.parts
-            ∙ ap (λ (n : NodeValue K). record (uncounting n (length reported)) { keeper = w.keeper }) z_is
-            ∙ ap (λ (o : Option ProposerValue). record x { keeper = w.keeper; proposer = option_map (λ (q : ProposerValue). without_last q (length reported)) (option_map (λ (q : ProposerValue). promise_counted q b from reported) o) }) e
-            ∙ ap (λ (q : ProposerValue). record x { keeper = w.keeper; proposer = Some q }) (taken_back p b from reported new)
-            ∙ ap (λ (o : Option ProposerValue). record x { keeper = w.keeper; proposer = o }) (sym e)
-            ∙ ap (λ (k : K). record x { keeper = k }) (sym keeper);
+            ∙ ap (λ n. uncounting n (length reported)) s.parts
+            ∙ ap (λ n. record (uncounting n (length reported)) { keeper = w.keeper }) z_is
+            ∙ ap (λ o. record x { keeper = w.keeper; proposer = option_map (λ q. without_last q (length reported)) (option_map (λ q. promise_counted q b from reported) o) }) e
+            ∙ ap (λ q. record x { keeper = w.keeper; proposer = Some q }) (taken_back p b from reported new)
+            ∙ ap (λ o. record x { keeper = w.keeper; proposer = o }) (sym e)
+            ∙ ap (λ k. record x { keeper = k }) (sym keeper);
         records = ap records keeper ∙ s.records ∙ ap records counted;
         faults = ap faults keeper ∙ s.faults ∙ ap faults counted;
-        short = subst (λ (k : K). RunsShort gives x.keeper k) (sym keeper) (subst (λ (k : K). RunsShort gives k w.keeper) counted s.short);
+        short = subst (λ k. RunsShort gives x.keeper k) (sym keeper) (subst (λ k. RunsShort gives k w.keeper) counted s.short);
       }
         where
           keeper : v.keeper ≡ w.keeper
-          keeper = ap (λ (n : NodeValue K). n.keeper) v_is
+          keeper = ap (λ n. n.keeper) v_is
 
           counted : z.keeper ≡ x.keeper
-          counted = ap (λ (n : NodeValue K). n.keeper) (counted_at z_is)
+          counted = ap (λ n. n.keeper) (counted_at z_is)
 
       pub promise_back : {z v : NodeValue K} → z ≡ counting x b from reported → v ≡ uncounting z (length reported) → IsStuck records gives faults service past whole x v before
       promise_back {z} {v} z_is v_is = inl (stands_back z_is (stands_same) v_is)
@@ -352,17 +352,17 @@ module _ {K : Type 0} {records : K → List (List ℕ)} (gives : K → List ℕ 
           decoded = node.decoded;
           rests = λ t.
               ap not (ap (counts.is_majority p.nodes) length_more ∙ few)
-              ∙ sym (ap (λ (s : Bool). not (s || is_some p.open_instance)) free.0 ∙ ap (λ (o : Option ℕ). not (false || is_some o)) free.1);
+              ∙ sym (ap (λ s. not (s || is_some p.open_instance)) free.0 ∙ ap (λ o. not (false || is_some o)) free.1);
         }
 
         pub promise_have : {z : NodeValue K} → z ≡ counting x b from reported → {have : ℕ} → have ≡ length p.promised + 1 → (after : Draft) → after.effects.items ≡ before.effects.items ++ effect.Have have ∷ [] → after.sends.items ≡ before.sends.items
             → EndsWell records gives faults service past x z before after whole
         promise_have {z} z_is have_is after effects sends =
-            subst (λ (n : NodeValue K). EndsWell records gives faults service past x n before after whole) (sym (counted_at z_is))
+            subst (λ n. EndsWell records gives faults service past x n before after whole) (sym (counted_at z_is))
             (ends_same records gives faults service past x z_at before after refl z_node up
             (λ f. hears_is f
-            ∙ ap (λ (t : Bool). cond t (settle (enough (map proposal_in more.reported)) x.nodes (service_of service x.seed) x.id (led (Leading (lead_of x.acceptor more (is_some x.acting))) (armed_with f begun))) (say (effect.Have (length more.promised)) (led (Leading (lead_of x.acceptor more (is_some x.acting))) (armed_with f begun)))) (majority_same few)
-            ∙ ap (λ (n : ℕ). say (effect.Have n) (led (Leading (lead_of x.acceptor more (is_some x.acting))) (armed_with f begun))) (length_more ∙ sym have_is)
+            ∙ ap (λ t. cond t (settle (enough (map proposal_in more.reported)) x.nodes (service_of service x.seed) x.id (led (Leading (lead_of x.acceptor more (is_some x.acting))) (armed_with f begun))) (say (effect.Have (length more.promised)) (led (Leading (lead_of x.acceptor more (is_some x.acting))) (armed_with f begun)))) (majority_same few)
+            ∙ ap (λ n. say (effect.Have n) (led (Leading (lead_of x.acceptor more (is_some x.acting))) (armed_with f begun))) (length_more ∙ sym have_is)
             ∙ ap (armed_with f) (sym (far records service past z_at after effects (ap (map (message_in past)) sends)))))
 
       -- ---- it is a majority
@@ -372,15 +372,15 @@ module _ {K : Type 0} {records : K → List (List ℕ)} (gives : K → List ℕ 
         promise_kept = subst (IsKept records service past) (sym (counted_at z_is)) z_kept
 
         pub promise_free : IsFree z.proposer (is_some z.acting)
-        promise_free = subst (λ (n : NodeValue K). IsFree n.proposer (is_some n.acting)) (sym (counted_at z_is)) (free.1, λ t. absurd (false≢true (sym free.0 ∙ t)))
+        promise_free = subst (λ n. IsFree n.proposer (is_some n.acting)) (sym (counted_at z_is)) (free.1, λ t. absurd (false≢true (sym free.0 ∙ t)))
 
         module _ {turns : ℕ} (turns_are : turns ≡ 2 * reports_of z.proposer + 3) where
           turns_here : turns ≡ 2 * length more.reported + 3
-          turns_here = turns_are ∙ ap (λ (n : NodeValue K). 2 * reports_of n.proposer + 3) (counted_at z_is)
+          turns_here = turns_are ∙ ap (λ n. 2 * reports_of n.proposer + 3) (counted_at z_is)
 
           pub promise_turns : IfSome z.proposer (λ (q : ProposerValue). 2 * above (length z.known) q.reported + 1 ≤ turns)
           promise_turns =
-              subst (λ (n : NodeValue K). IfSome n.proposer (λ (q : ProposerValue). 2 * above (length n.known) q.reported + 1 ≤ turns)) (sym (counted_at z_is))
+              subst (λ n. IfSome n.proposer (λ q. 2 * above (length n.known) q.reported + 1 ≤ turns)) (sym (counted_at z_is))
               (omega (arith, above_most (length x.known) more.reported, turns_here))
 
           abbrev rest : CallHere → CallHere
@@ -390,24 +390,24 @@ module _ {K : Type 0} {records : K → List (List ℕ)} (gives : K → List ℕ 
           promise_leads =
               leads_same records gives faults service refl
               (λ f. hears_is f
-              ∙ ap (λ (t : Bool). cond t (settle (enough (map proposal_in more.reported)) x.nodes (service_of service x.seed) x.id (led (Leading (lead_of x.acceptor more (is_some x.acting))) (armed_with f begun))) (say (effect.Have (length more.promised)) (led (Leading (lead_of x.acceptor more (is_some x.acting))) (armed_with f begun)))) (majority_same many)
-              ∙ ap (λ (n : ℕ). settle (2 * n + 3) x.nodes (service_of service x.seed) x.id (armed_with f (so_far records service past z_at before))) (length-map more.reported proposal_in)
-              ∙ ap (λ (n : ℕ). settle n x.nodes (service_of service x.seed) x.id (armed_with f (so_far records service past z_at before))) (sym turns_here))
+              ∙ ap (λ t. cond t (settle (enough (map proposal_in more.reported)) x.nodes (service_of service x.seed) x.id (led (Leading (lead_of x.acceptor more (is_some x.acting))) (armed_with f begun))) (say (effect.Have (length more.promised)) (led (Leading (lead_of x.acceptor more (is_some x.acting))) (armed_with f begun)))) (majority_same many)
+              ∙ ap (λ n. settle (2 * n + 3) x.nodes (service_of service x.seed) x.id (armed_with f (so_far records service past z_at before))) (length-map more.reported proposal_in)
+              ∙ ap (λ n. settle n x.nodes (service_of service x.seed) x.id (armed_with f (so_far records service past z_at before))) (sym turns_here))
 
           pub promise_runs : RunsOn service whole begun → RunsOn service (settle turns z.nodes (service_of service z.seed) z.id) (so_far records service past z before)
           promise_runs r =
-              subst (λ (n : NodeValue K). RunsOn service (settle turns n.nodes (service_of service n.seed) n.id) (so_far records service past n before)) (sym (counted_at z_is))
+              subst (λ n. RunsOn service (settle turns n.nodes (service_of service n.seed) n.id) (so_far records service past n before)) (sym (counted_at z_is))
               (rest_runs past x z_at before before promise_leads r)
 
           pub promise_ends : {w : NodeValue K} (after : Draft) (going : Going) → Ends records gives faults service past (settle turns z.nodes (service_of service z.seed) z.id) z w before after going → Ends records gives faults service past whole x w before after going
           promise_ends {w} after going h =
               ends_then records gives faults service past whole rest x z_at w before before after going refl promise_leads
-              (subst (λ (n : NodeValue K). Ends records gives faults service past (settle turns n.nodes (service_of service n.seed) n.id) n w before after going) (counted_at z_is) h)
+              (subst (λ n. Ends records gives faults service past (settle turns n.nodes (service_of service n.seed) n.id) n w before after going) (counted_at z_is) h)
 
           -- memory was short, and it is taken back
           pub promise_stuck : {w v : NodeValue K} → IsStuck records gives faults service past (settle turns z.nodes (service_of service z.seed) z.id) z w before → v ≡ uncounting w (length reported) → IsStuck records gives faults service past whole x v before
           promise_stuck {w} {v} (inl s) v_is = inl (stands_back z_is s v_is)
           promise_stuck {w} {v} (inr b) v_is =
               inr (breaks_later z_at v before promise_leads
-              (breaks_kept (ap (λ (n : NodeValue K). n.keeper) v_is) (ap (λ (n : NodeValue K). n.base) v_is)
-              (subst (λ (n : NodeValue K). BreaksOff records gives faults service past (settle turns n.nodes (service_of service n.seed) n.id) n w before) (counted_at z_is) b)))
+              (breaks_kept (ap (λ n. n.keeper) v_is) (ap (λ n. n.base) v_is)
+              (subst (λ n. BreaksOff records gives faults service past (settle turns n.nodes (service_of service n.seed) n.id) n w before) (counted_at z_is) b)))

@@ -43,7 +43,7 @@ last_spelled service values v fits =
 -- with one value more
 pub one_more : (values : List (List ℕ)) {index : ℕ} {value : List ℕ} → index < length values → value ≡ get_or values index value → All SpellsDelta (take index values) → SpellsDelta value → All SpellsDelta (take (index + 1) values)
 one_more values {index} {value} there is before h =
-    subst (λ (vs : List (List ℕ)). All SpellsDelta vs) (sym (take_more values index value there))
+    subst (λ vs. All SpellsDelta vs) (sym (take_more values index value there))
     (All-append SpellsDelta (take index values) (get_or values index value ∷ []) before (All-cons SpellsDelta (get_or values index value) [] (subst SpellsDelta is h) (All-nil SpellsDelta)))
 
 nowhere : (o : Option ℕ) → is_some o ≡ false → o ≡ None
@@ -65,7 +65,7 @@ stateless (Transferred k bytes ∷ rs) e = absurd (cc)
 module _ (service : Declarations) where
   -- the last state of these, or else the one before them, is spelled
   abbrev IsSpelled : Option Saved → List Rec → Type 0
-  IsSpelled before rs = bad_at (state_at service (snapshot_of (fold (λ (b : Option Saved) x. Some x) before (filter_map checkpoint_in rs)))) ≡ None
+  IsSpelled before rs = bad_at (state_at service (snapshot_of (fold (λ b x. Some x) before (filter_map checkpoint_in rs)))) ≡ None
 
   -- a state is the last one, or one comes behind it
   state_good : (k : ℕ) (bytes : List ℕ) (rs : List Rec) → IsSpelled (Some (record { deltas = k; snapshot = bytes })) rs → (if has_state rs then None else bad_at (state_in service bytes)) ≡ None
@@ -73,7 +73,7 @@ module _ (service : Declarations) where
     where
       by : (t : Bool) → has_state rs ≡ t → ◌≡◌ {A = Option ℕ} (if t then None else bad_at (state_in service bytes)) None
       by true e = refl
-      by false e = subst (λ (ss : List Saved). bad_at (state_at service (snapshot_of (fold (λ (b : Option Saved) x. Some x) (Some (record { deltas = k; snapshot = bytes })) ss))) ≡ None) (stateless rs e) h
+      by false e = subst (λ ss. bad_at (state_at service (snapshot_of (fold (λ b x. Some x) (Some (record { deltas = k; snapshot = bytes })) ss))) ≡ None) (stateless rs e) h
 
   -- a value that isn't forgotten is one of those that are known
   value_good : (offset instance : ℕ) (value : List ℕ) (rs : List Rec) → All SpellsDelta (known_above offset (Known instance value ∷ rs)) → (bad_in service offset (Known instance value) rs ≡ None) × All SpellsDelta (known_above offset rs)
@@ -90,19 +90,19 @@ module _ (service : Declarations) where
   none_bad offset (Accepted b i v ∷ rs) n before all last = none_bad offset rs (suc n) before all last
   none_bad offset (Known i v ∷ rs) n before all last =
       let parts = value_good offset i v rs all in
-      ap (λ (o : Option ℕ). place_or n o (first_bad service offset (suc n) rs)) parts.0 ∙ none_bad offset rs (suc n) before parts.1 last
+      ap (λ o. place_or n o (first_bad service offset (suc n) rs)) parts.0 ∙ none_bad offset rs (suc n) before parts.1 last
   none_bad offset (Checkpoint k bytes ∷ rs) n before all last =
-      ap (λ (o : Option ℕ). place_or n o (first_bad service offset (suc n) rs)) (state_good k bytes rs last) ∙ none_bad offset rs (suc n) _ all last
+      ap (λ o. place_or n o (first_bad service offset (suc n) rs)) (state_good k bytes rs last) ∙ none_bad offset rs (suc n) _ all last
   none_bad offset (Dropped k ∷ rs) n before all last = none_bad offset rs (suc n) before all last
   none_bad offset (Transferred k bytes ∷ rs) n before all last =
-      ap (λ (o : Option ℕ). place_or n o (first_bad service offset (suc n) rs)) (state_good k bytes rs last) ∙ none_bad offset rs (suc n) _ all last
+      ap (λ o. place_or n o (first_bad service offset (suc n) rs)) (state_good k bytes rs last) ∙ none_bad offset rs (suc n) _ all last
 
   -- so it is of what they say of a node
   pub none_bad_in : {x : Recovered} (rs : List Rec) {last : Option ℕ} → x ≡ recovered rs → last ≡ bad_at (state_at service x.snapshot) → is_some last ≡ false → All SpellsDelta x.known → None ≡ first_bad service x.offset 1 rs
   none_bad_in rs {last} is said good deltas =
-      let all : All SpellsDelta (known rs) = subst (λ (y : Recovered). All SpellsDelta y.known) is deltas in
-      let spelled : IsSpelled None rs = subst (λ (y : Recovered). bad_at (state_at service y.snapshot) ≡ None) is (sym said ∙ nowhere last good) in
-      sym (ap (λ (y : Recovered). first_bad service y.offset 1 rs) is ∙ none_bad _ rs 1 None all spelled)
+      let all : All SpellsDelta (known rs) = subst (λ y. All SpellsDelta y.known) is deltas in
+      let spelled : IsSpelled None rs = subst (λ y. bad_at (state_at service y.snapshot) ≡ None) is (sym said ∙ nowhere last good) in
+      sym (ap (λ y. first_bad service y.offset 1 rs) is ∙ none_bad _ rs 1 None all spelled)
 
   -- ---- where none is bad
 
@@ -131,4 +131,4 @@ module _ (service : Declarations) where
       values_good offset rs (suc n) (rest_good n _ good).1
 
   pub known_good : {kept : List (List ℕ)} {x : Recovered} → IsFound service kept x → All SpellsDelta x.known
-  known_good f = subst (λ (y : Recovered). All SpellsDelta y.known) (sym f.read.is) (values_good _ f.read.rs 1 f.good)
+  known_good f = subst (λ y. All SpellsDelta y.known) (sym f.read.is) (values_good _ f.read.rs 1 f.good)

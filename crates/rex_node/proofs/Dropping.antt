@@ -46,15 +46,15 @@ use Rattle.rex_node.proofs.Votes.{found_instance}
 -- a node that drops values that the past has knows as much as before
 dropped_knows : {K : Type 0} {past : List Value} (y : NodeValue K) {k : ℕ} → y.offset ≤ k → k ≤ length (knows past y) → Begins (knows past y) past → knows past (dropped y k) ≡ knows past y
 dropped_knows {past} y {k} from to begins =
-    ap (λ (vs : List Value). vs ++ drop (k - y.offset) y.known) (first_take k past there ∙ front)
-    ∙ ap (λ (vs : List Value). take k (knows past y) ++ vs) (sym (knowing.drop_known past y from))
+    ap (λ vs. vs ++ drop (k - y.offset) y.known) (first_take k past there ∙ front)
+    ∙ ap (λ vs. take k (knows past y) ++ vs) (sym (knowing.drop_known past y from))
     ∙ take-append-drop k (knows past y)
   where
     there : k ≤ length past
-    there = omega (arith, to, length-append (knows past y) begins.0, ap (λ (vs : List Value). length vs) begins.1)
+    there = omega (arith, to, length-append (knows past y) begins.0, ap (λ vs. length vs) begins.1)
 
     front : take k past ≡ take k (knows past y)
-    front = ap (λ (vs : List Value). take k vs) (sym begins.1) ∙ take-append-le k (knows past y) begins.0 to
+    front = ap (λ vs. take k vs) (sym begins.1) ∙ take-append-le k (knows past y) begins.0 to
 
 -- so it is as before but for where it begins to hold values and acceptances
 abbrev pub forgetful : {K : Type 0} → NodeValue K → K → NodeValue K
@@ -89,7 +89,7 @@ from_on_later {i} {j} (p ∷ ps) l = go (leb i p.instance) refl (leb j p.instanc
   where
     go : (early : Bool) → leb i p.instance ≡ early → (late : Bool) → leb j p.instance ≡ late → from_on j (from_on i ps) ≡ from_on j ps
         → from_on j (cond early (p ∷ from_on i ps) (from_on i ps)) ≡ cond late (p ∷ from_on j ps) (from_on j ps)
-    go true a true b ih = rw b (ap (λ (qs : List (Proposal Value)). p ∷ qs) ih)
+    go true a true b ih = rw b (ap (λ qs. p ∷ qs) ih)
     go true a false b ih = rw b ih
     go false a true b ih = absurd (let x = leb-false i p.instance a in let y = leb-true j p.instance b in omega (arith, l))
     go false a false b ih = ih
@@ -101,7 +101,7 @@ forgotten {o} {k} ps qs e l = above_from k ps ∙ ap (from_on (suc k)) e ∙ fro
 
 -- what it accepted for a later instance is there
 found_later : {k i : ℕ} (ps : List Kept) → k < i → proposal_for i (above k ps) ≡ proposal_for i ps
-found_later {k} {i} ps l = find_kept (λ (p : Kept). eqb p.instance i) (λ (p : Kept). ltb k p.instance) (λ p e. let same = eqb-true p.instance i e in lt-ltb k p.instance (omega (arith, l, same))) ps
+found_later {k} {i} ps l = find_kept (λ p. eqb p.instance i) (λ p. ltb k p.instance) (λ p e. let same = eqb-true p.instance i e in lt-ltb k p.instance (omega (arith, l, same))) ps
 
 -- the open instance, if there is one, is a later one
 abbrev IsLater : ℕ → Option ℕ → Type 0
@@ -134,7 +134,7 @@ has_kept a b k (Some i) l h = (h.0, found_later _ l ∙ h.1, h.2)
 
 role_kept : (a : AcceptorValue) (k : ℕ) (active : Bool) (o : Option ProposerValue) → LeadsLater k o → role_of (forgetting a k) o active ≡ role_of a o active
 role_kept a k active None l = refl
-role_kept a k active (Some p) l = ap (λ (q : Option (Proposal Value)). Leads (record (lead_of a p active) { proposal = q })) (open_kept a k _ l)
+role_kept a k active (Some p) l = ap (λ q. Leads (record (lead_of a p active) { proposal = q })) (open_kept a k _ l)
 
 proposer_kept : (nodes id : ℕ) (a : AcceptorValue) (k : ℕ) (o : Option ProposerValue) → LeadsLater k o → IsProposer nodes id a o → IsProposer nodes id (forgetting a k) o
 proposer_kept nodes id a k None l h = tt
@@ -151,7 +151,7 @@ proposer_kept nodes id a k (Some p) l h = record {
 acting_kept : (service : Declarations) (values : List Value) (a : AcceptorValue) (k : ℕ) (o : Option ProposerValue) (w : Option ActingValue) → LeadsLater k o → IsActing service values a o w → IsActing service values (forgetting a k) o w
 acting_kept service values a k o None l h = tt
 acting_kept service values a k None (Some w) l h = h
-acting_kept service values a k (Some p) (Some w) l h = subst (λ (q : Option (Proposal Value)). ActsFor service values q w) (sym (open_kept a k _ l)) h
+acting_kept service values a k (Some p) (Some w) l h = subst (λ q. ActsFor service values q w) (sym (open_kept a k _ l)) h
 
 -- ---- the call
 
@@ -172,15 +172,15 @@ module _ {K : Type 0} (records : K → List (List ℕ)) (gives : K → List ℕ 
   later = leads_later x.nodes x.id _ _ _ b.proposer b.role l.few
 
   pub drop_spelled : HasSpelling (kept.Dropped x.base)
-  drop_spelled = record { in_range = record { first = omega (arith, held); last = omega (arith, l.few, l.numbers.few, ap (λ (vs : List Value). length vs) l.known) } }
+  drop_spelled = record { in_range = record { first = omega (arith, held); last = omega (arith, l.few, l.numbers.few, ap (λ vs. length vs) l.known) } }
 
   due : IsDue (standing_in log) (kept.Dropped x.base)
-  due = (subst (λ (o : ℕ). o < x.base) l.offset_is held, l.base)
+  due = (subst (λ o. o < x.base) l.offset_is held, l.base)
 
   -- the model appends the record
   appends : (f : Option Failure) → drop_known x.id (armed_with f (so_far records service past x before)) ≡ append f x.id (Dropped x.base) (armed_with f (so_far records service past x before)) (say (effect.Dropped x.id x.base))
   appends f =
-      ap (λ (t : Bool). drops_if t (base log)) (ne_eqb (base log) (offset log) (λ e. omega (arith, held, l.base, l.offset_is, e)))
+      ap (λ t. drops_if t (base log)) (ne_eqb (base log) (offset log) (λ e. omega (arith, held, l.base, l.offset_is, e)))
       ∙ ap (drops_if false) (sym l.base)
     where
       drops_if : Bool → ℕ → CallHere
@@ -210,7 +210,7 @@ module _ {K : Type 0} (records : K → List (List ℕ)) (gives : K → List ℕ 
       old_base = l.old_base;
       few = l.few;
       start = l.start;
-      short = All-filter _ (λ (q : Kept). IsValue q.value) x.acceptor.accepted l.short;
+      short = All-filter _ (λ q. IsValue q.value) x.acceptor.accepted l.short;
       fits = l.fits;
       numbers = record { ballots = l.numbers.ballots; instances = l.numbers.instances; few = l.numbers.few };
     }
@@ -234,28 +234,28 @@ module _ {K : Type 0} (records : K → List (List ℕ)) (gives : K → List ℕ 
 
     forgets_here : here_of records service past (forgetful x y.keeper) ≡ record (here_of records service past x) { log = Dropped x.base ∷ log }
     forgets_here =
-        ap (λ (r : Role Value). record (here_of records service past x) { log = log_of service past (records y.keeper); role = r }) (role_kept x.acceptor x.base _ _ later)
-        ∙ ap (λ (rs : List (Rec Value StateValue)). record (here_of records service past x) { log = rs }) log_is
+        ap (λ r. record (here_of records service past x) { log = log_of service past (records y.keeper); role = r }) (role_kept x.acceptor x.base _ _ later)
+        ∙ ap (λ rs. record (here_of records service past x) { log = rs }) log_is
 
     drop_on : {z : NodeValue K} (after : Draft) → z ≡ forgetful x y.keeper → after.effects.items ≡ mid.effects.items ++ effect.Dropped x.id x.base ∷ [] → after.sends.items ≡ mid.sends.items
         → EndsWell records gives faults service past x z before after (drop_known x.id)
     drop_on {z} after z_is effects sends =
         recorded_on gives faults y before mid node up drop_spelled due refl refl appends h after
-        (ap (λ (n : NodeValue K). n.keeper) z_is) (subst (IsResting records service past) (sym z_is) forgets_node) (ap (λ (n : NodeValue K). n.up) z_is ∙ up) (λ f. refl)
+        (ap (λ n. n.keeper) z_is) (subst (IsResting records service past) (sym z_is) forgets_node) (ap (λ n. n.up) z_is ∙ up) (λ f. refl)
         (far records service past z after
-        (effects ∙ ap (λ (es : List Effect). es ++ effect.Dropped x.id x.base ∷ []) h.1) (ap (map (message_in past)) (sends ∙ h.2))
-        ∙ ap (λ (n : Here). call_at n (map (message_in past) before.sends.items) (before.effects.items ++ effect.Dropped x.id x.base ∷ [])) (ap (here_of records service past) z_is ∙ forgets_here))
+        (effects ∙ ap (λ es. es ++ effect.Dropped x.id x.base ∷ []) h.1) (ap (map (message_in past)) (sends ∙ h.2))
+        ∙ ap (λ n. call_at n (map (message_in past) before.sends.items) (before.effects.items ++ effect.Dropped x.id x.base ∷ [])) (ap (here_of records service past) z_is ∙ forgets_here))
 
     module _ (w : NodeValue K) (w_is : y ≡ whole past w) where
       -- the base is among what it counts
       pub drop_counts : x.base ≤ count_of w
-      drop_counts = subst (λ (n : ℕ). x.base ≤ n) (ap (λ (n : NodeValue K). length n.known) (sym h.0.parts ∙ w_is) ∙ knowing.many_known past w) l.few
+      drop_counts = subst (λ n. x.base ≤ n) (ap (λ n. length n.known) (sym h.0.parts ∙ w_is) ∙ knowing.many_known past w) l.few
 
       -- and it ends where the values up to the base are dropped
       pub drop_ends : Begins (known log) past → {z : NodeValue K} (after : Draft) {k : ℕ} → z ≡ dropped w k → k ≡ x.base → after.effects.items ≡ mid.effects.items ++ effect.Dropped x.id x.base ∷ [] → after.sends.items ≡ mid.sends.items
           → EndsWell records gives faults service past x (whole past z) before after (drop_known x.id)
       drop_ends begins {z} after {k} z_is k_is effects sends =
-          drop_on after (dropped_whole x w parts z_is k_is (omega (arith, held)) l.few (subst (λ (vs : List Value). Begins vs past) (sym l.known) begins) ∙ ap (λ (n : NodeValue K). forgetful x n.keeper) (sym w_is)) effects sends
+          drop_on after (dropped_whole x w parts z_is k_is (omega (arith, held)) l.few (subst (λ vs. Begins vs past) (sym l.known) begins) ∙ ap (λ n. forgetful x n.keeper) (sym w_is)) effects sends
         where
           parts : whole past w ≡ record x { keeper = w.keeper }
-          parts = sym w_is ∙ h.0.parts ∙ ap (λ (n : NodeValue K). record x { keeper = n.keeper }) w_is
+          parts = sym w_is ∙ h.0.parts ∙ ap (λ n. record x { keeper = n.keeper }) w_is

@@ -54,13 +54,13 @@ module _ {K : Type 0} {records : K → List (List ℕ)} {service : Declarations}
       live = live_state_is has is_up.known e
 
       first : state_after service (trace_of knows) ≡ a.recorder.start
-      first = ap (λ (vs : List Value). state_after service (trace_of vs)) (sym is_up.known) ∙ start_is has
+      first = ap (λ vs. state_after service (trace_of vs)) (sym is_up.known) ∙ start_is has
 
       by : (limits : Option (List ℕ)) → counts_for service (here_of records service past x) limits ≡ counts_in a limits
       by None = ap counts_of live
       by (Some limits) =
-          ap (λ (s : StateValue). limits_between (counts_of s) (counts_of (state_after service (trace_of knows ++ (work_of x.acting).live))) limits) first
-          ∙ ap (λ (s : StateValue). limits_between (counts_of a.recorder.start) (counts_of s) limits) live
+          ap (λ s. limits_between (counts_of s) (counts_of (state_after service (trace_of knows ++ (work_of x.acting).live))) limits) first
+          ∙ ap (λ s. limits_between (counts_of a.recorder.start) (counts_of s) limits) live
 
   pub can_make : (limits : Option (List ℕ)) → CanBeCut (here_of records service past x) (counts_for service (here_of records service past x) limits) → IfSome x.acting (CanMakePiece limits)
   can_make limits h = by x.acting refl
@@ -71,8 +71,8 @@ module _ {K : Type 0} {records : K → List (List ℕ)} {service : Declarations}
       by : (w : Option ActingValue) → x.acting ≡ w → IfSome w (CanMakePiece limits)
       by None e = tt
       by (Some a) e =
-          subst (λ (counts : List ℕ). P counts a.recorder.live) (counts_are e limits)
-          (subst (λ (w : Option ActingValue). P (counts_for service (here_of records service past x) limits) (work_of w).live) e h)
+          subst (λ counts. P counts a.recorder.live) (counts_are e limits)
+          (subst (λ w. P (counts_for service (here_of records service past x) limits) (work_of w).live) e h)
 
   pub refuses_node : (limits : Option (List ℕ)) (result : Result Piece Refusal) → MakesPieceOf x.acting limits result
       → RefusesThen None (refusal_of_none (below (greatest_cut (counts_for service (here_of records service past x) limits) (work_of x.acting).live) (work_of x.acting).live)) result
@@ -84,6 +84,6 @@ module _ {K : Type 0} {records : K → List (List ℕ)} {service : Declarations}
       by : (w : Option ActingValue) → x.acting ≡ w → MakesPieceOf w limits result → RefusesThen None (late (counts_for service (here_of records service past x) limits) (work_of x.acting).live) result
       by None e k = absurd k
       by (Some a) e k =
-          subst (λ (o : Option Refusal). RefusesThen None o result)
-          (sym (ap (λ (w : Option ActingValue). late (counts_for service (here_of records service past x) limits) (work_of w).live) e ∙ ap (λ (counts : List ℕ). late counts a.recorder.live) (counts_are e limits)))
+          subst (λ o. RefusesThen None o result)
+          (sym (ap (λ w. late (counts_for service (here_of records service past x) limits) (work_of w).live) e ∙ ap (λ counts. late counts a.recorder.live) (counts_are e limits)))
           (refuses a _ result k)

@@ -56,7 +56,7 @@ node_with_keeper {records} {service} {past} {x} {k} same h = record { id = h.id;
   where
     up : IsUp service x (here_of records service past x) → IsUp service (record x { keeper = k }) (here_of records service past (record x { keeper = k }))
     up u =
-        let l : IsLogged service x (log_of service past (records k)) = subst (λ (kept : List (List ℕ)). IsLogged service x (log_of service past kept)) (sym same) (logged_of records service past x u) in
+        let l : IsLogged service x (log_of service past (records k)) = subst (λ kept. IsLogged service x (log_of service past kept)) (sym same) (logged_of records service past x u) in
         let b : Beside records service past x = beside_of records service past x u in
         up_of records service past (record x { keeper = k })
         (record { promised = l.promised; accepted = l.accepted; offset_is = l.offset_is; low = l.low; known = l.known; base = l.base; old_base = l.old_base; few = l.few; start = l.start; short = l.short; fits = l.fits; numbers = l.numbers })
@@ -67,8 +67,8 @@ node_with_keeper {records} {service} {past} {x} {k} same h = record { id = h.id;
 -- a call begins with nothing done
 pub begins : {K : Type 0} (records : K → List (List ℕ)) (service : Declarations) (past : List Value) (x : NodeValue K) (first : Draft) → first.effects.items ≡ [] → first.sends.items ≡ [] → so_far records service past x first ≡ begin (here_of records service past x)
 begins records service past x first e s =
-    ap (λ (es : List Effect). call_at (here_of records service past x) (map (message_in past) first.sends.items) es) e
-    ∙ ap (λ (ms : List Message). call_at (here_of records service past x) (map (message_in past) ms) []) s
+    ap (λ es. call_at (here_of records service past x) (map (message_in past) first.sends.items) es) e
+    ∙ ap (λ ms. call_at (here_of records service past x) (map (message_in past) ms) []) s
 
 module _ {K : Type 0} (records : K → List (List ℕ)) (gives : K → List ℕ → Answer → K → Type 0) (faults : K → ℕ) (service : Declarations) (past : List Value) (call : CallHere → CallHere) (x y z : NodeValue K) (before : ℕ) (first draft : Draft) where
   -- what is known of a call that came to its end
@@ -86,24 +86,24 @@ module _ {K : Type 0} (records : K → List (List ℕ)) (gives : K → List ℕ 
   -- its step is what the draft was in the end
   comes_to : {step : Step} → z ≡ y → step.effects ≡ draft.effects.items → step.sends ≡ draft.sends.items → so_far records service past y draft ≡ call_of records service past z step
   comes_to {step} same effects sends =
-      ap (λ (n : NodeValue K). so_far records service past n draft) (sym same)
-      ∙ ap (λ (es : List Effect). record { node = here_of records service past z; sends = map (message_in past) draft.sends.items; effects = es }) (sym effects)
-      ∙ ap (λ (ms : List Message). record { node = here_of records service past z; sends = map (message_in past) ms; effects = step.effects }) (sym sends)
+      ap (λ n. so_far records service past n draft) (sym same)
+      ∙ ap (λ es. record { node = here_of records service past z; sends = map (message_in past) draft.sends.items; effects = es }) (sym effects)
+      ∙ ap (λ ms. record { node = here_of records service past z; sends = map (message_in past) ms; effects = step.effects }) (sym sends)
 
   -- a call that went well is this one of the model with no failure
   call_well : Leads records gives faults service call (λ d. d) x.keeper y.keeper (so_far records service past x first) (so_far records service past y draft) → call (so_far records service past x first) ≡ so_far records service past y draft
-  call_well l = ap (λ (f : Option Failure). call (armed_with f (so_far records service past x first))) (sym (later_none l.written)) ∙ l.comes None
+  call_well l = ap (λ f. call (armed_with f (so_far records service past x first))) (sym (later_none l.written)) ∙ l.comes None
 
   pub told : (end : Result Going AllocError) (result : Result Step Refusal) → HasCome end result → IfOk result (Does records gives faults service past call x z)
   told (Ok On) (Ok step) h =
       let l = h.ends.0.0 in
       inl (record {
         written = l.written;
-        appends = subst (λ (n : NodeValue K). AppendsInTurn gives x.keeper l.written (Ok tt) n.keeper) (sym h.finishes.0) l.appends;
-        grown = ap (λ (n : NodeValue K). records n.keeper) h.finishes.0 ∙ l.grown;
-        counted = ap (λ (n : NodeValue K). faults n.keeper) h.finishes.0 ∙ l.counted;
+        appends = subst (λ n. AppendsInTurn gives x.keeper l.written (Ok tt) n.keeper) (sym h.finishes.0) l.appends;
+        grown = ap (λ n. records n.keeper) h.finishes.0 ∙ l.grown;
+        counted = ap (λ n. faults n.keeper) h.finishes.0 ∙ l.counted;
         stated = l.stated;
-        many = ap (λ (n : NodeValue K). length (log_of service past (records n.keeper))) h.finishes.0 ∙ l.many;
+        many = ap (λ n. length (log_of service past (records n.keeper))) h.finishes.0 ∙ l.many;
         is = ap call (sym (begins records service past x first h.effects h.sends)) ∙ call_well l ∙ comes_to h.finishes.0 h.finishes.1 h.finishes.2;
       })
   told (Ok Down) (Ok step) h =
@@ -114,12 +114,12 @@ module _ {K : Type 0} (records : K → List (List ℕ)) (gives : K → List ℕ 
         kept = f.kept;
         between = f.between;
         appends = f.appends;
-        fails = subst (λ (n : NodeValue K). gives f.between f.bytes (Err Failed) n.keeper) (sym h.finishes.0) f.fails;
-        grown = ap (λ (n : NodeValue K). records n.keeper) h.finishes.0 ∙ f.grown;
-        counted = subst (λ (n : NodeValue K). faults x.keeper < faults n.keeper) (sym h.finishes.0) f.counted;
+        fails = subst (λ n. gives f.between f.bytes (Err Failed) n.keeper) (sym h.finishes.0) f.fails;
+        grown = ap (λ n. records n.keeper) h.finishes.0 ∙ f.grown;
+        counted = subst (λ n. faults x.keeper < faults n.keeper) (sym h.finishes.0) f.counted;
         stated = f.stated;
-        many = ap (λ (n : NodeValue K). length (log_of service past (records n.keeper))) h.finishes.0 ∙ f.many;
-        is = ap (λ (d : CallHere). call (armed_with (Some (After (length f.written) f.kept)) d)) (sym (begins records service past x first h.effects h.sends)) ∙ f.is ∙ comes_to h.finishes.0 h.finishes.1 h.finishes.2;
+        many = ap (λ n. length (log_of service past (records n.keeper))) h.finishes.0 ∙ f.many;
+        is = ap (λ d. call (armed_with (Some (After (length f.written) f.kept)) d)) (sym (begins records service past x first h.effects h.sends)) ∙ f.is ∙ comes_to h.finishes.0 h.finishes.1 h.finishes.2;
       })
   told end (Err refusal) h = tt
   told (Err e) (Ok step) h = absurd h.finishes
@@ -127,8 +127,8 @@ module _ {K : Type 0} (records : K → List (List ℕ)) (gives : K → List ℕ 
   pub down : (end : Result Going AllocError) (result : Result Step Refusal) → HasCome end result → IsQuiet (call (begin (here_of records service past x))).effects → IfOk result (EndsDown x.id (faults x.keeper) (faults z.keeper) z.up)
   down (Ok On) (Ok step) h quiet =
       let l = h.ends.0.0 in
-      let same : faults z.keeper ≡ faults x.keeper = ap (λ (n : NodeValue K). faults n.keeper) h.finishes.0 ∙ l.counted in
-      let effects : (call (begin (here_of records service past x))).effects ≡ step.effects = ap (λ (d : CallHere). d.effects) (ap call (sym (begins records service past x first h.effects h.sends)) ∙ call_well l) ∙ sym h.finishes.1 in
+      let same : faults z.keeper ≡ faults x.keeper = ap (λ n. faults n.keeper) h.finishes.0 ∙ l.counted in
+      let effects : (call (begin (here_of records service past x))).effects ≡ step.effects = ap (λ d. d.effects) (ap call (sym (begins records service past x first h.effects h.sends)) ∙ call_well l) ∙ sym h.finishes.1 in
       record {
         down = λ more. absurd (omega arith);
         only = λ last. absurd (quiet x.id (subst (IsAmong (effect.Down x.id)) (sym effects) (last_among _ last)));
@@ -139,9 +139,9 @@ module _ {K : Type 0} (records : K → List (List ℕ)) (gives : K → List ℕ 
       let f = h.ends.0.0 in
       record {
         down = λ more. ap last_of (h.finishes.1 ∙ f.told) ∙ last_push f.front;
-        only = λ last. subst (λ (n : NodeValue K). faults x.keeper < faults n.keeper) (sym h.finishes.0) f.fails.counted;
+        only = λ last. subst (λ n. faults x.keeper < faults n.keeper) (sym h.finishes.0) f.fails.counted;
         quiet = λ more. h.finishes.2 ∙ no_messages past _ f.quiet;
-        falls = λ more. ap (λ (n : NodeValue K). n.up) h.finishes.0 ∙ h.ends.0.1.down;
+        falls = λ more. ap (λ n. n.up) h.finishes.0 ∙ h.ends.0.1.down;
       }
   down end (Err refusal) h quiet = tt
   down (Err e) (Ok step) h quiet = absurd h.finishes
@@ -155,8 +155,8 @@ module _ {K : Type 0} (records : K → List (List ℕ)) (gives : K → List ℕ 
   pub gives_up : z ≡ fallen y → so_far records service past x first ≡ begin (here_of records service past x) → BreaksOff records gives faults service past call x y first → IsGivenUp records gives faults service past call x z
   gives_up fell starts b =
       subst (IsGivenUp records gives faults service past call x) (sym fell) (record {
-        stops = subst (λ (d : CallHere). StopsShort records gives faults service call x.keeper y.keeper d (log_of service past (records y.keeper))) starts b.stops;
-        down = ap (λ (n : ℕ). record (down_node (log_of service past (records y.keeper)) None) { replayed = n }) b.based;
+        stops = subst (λ d. StopsShort records gives faults service call x.keeper y.keeper d (log_of service past (records y.keeper))) starts b.stops;
+        down = ap (λ n. record (down_node (log_of service past (records y.keeper)) None) { replayed = n }) b.based;
       })
 
   pub left_short : {e : AllocError} {refusal : Refusal} → HasCome (Err e) (Err refusal) → Stands records faults gives x z ⊎ IsGivenUp records gives faults service past call x z
@@ -172,8 +172,8 @@ module _ {K : Type 0} (records : K → List (List ℕ)) (gives : K → List ℕ 
     where
       down_kept : IsResting records service past (fallen y)
       down_kept = record {
-        id = subst (λ (i : ℕ). (0 < i) × (i ≤ y.nodes)) (sym s.id) (subst (λ (m : ℕ). (0 < x.id) × (x.id ≤ m)) (sym s.nodes) n.id);
-        few = subst (λ (m : ℕ). m ≤ most_nodes) (sym s.nodes) n.few;
+        id = subst (λ i. (0 < i) × (i ≤ y.nodes)) (sym s.id) (subst (λ m. (0 < x.id) × (x.id ≤ m)) (sym s.nodes) n.id);
+        few = subst (λ m. m ≤ most_nodes) (sym s.nodes) n.few;
         up = λ t. absurd (false≢true t);
         reached = tt;
         decoded = subst (HasDecoded service) (sym s.decoded) n.decoded;
@@ -188,9 +188,9 @@ module _ {K : Type 0} (records : K → List (List ℕ)) (gives : K → List ℕ 
 
   -- nothing but want of memory is a reason not to do it
   pub refused : (end : Result Going AllocError) (result : Result Step Refusal) → HasCome end result → {due : Option Refusal} → due ≡ None → Refuses due result
-  refused end (Ok step) h e = subst (λ (o : Option Refusal). Refuses {A = Step} o (Ok step)) (sym e) tt
+  refused end (Ok step) h e = subst (λ o. Refuses {A = Step} o (Ok step)) (sym e) tt
   refused (Ok going) (Err refusal) h e = absurd h.finishes
-  refused (Err a) (Err refusal) h e = subst (λ (o : Option Refusal). Refuses {A = Step} o (Err refusal)) (sym e) h.finishes.0
+  refused (Err a) (Err refusal) h e = subst (λ o. Refuses {A = Step} o (Err refusal)) (sym e) h.finishes.0
 
 -- ---- the same of a node that holds but some of the values
 
@@ -212,7 +212,7 @@ module _ {K : Type 0} (records : K → List (List ℕ)) (gives : K → List ℕ 
   left end (Ok step) h = tt
   left (Ok going) (Err refusal) h = absurd h.finishes
   left (Err e) (Err refusal) h =
-      subst (λ (r : Refusal). Leaves {A = Step} records gives faults service past call (Err r) x z) (sym h.finishes.0)
+      subst (λ r. Leaves {A = Step} records gives faults service past call (Err r) x z) (sym h.finishes.0)
       (by (left_short records gives faults service past call _ y _ before start draft h))
     where
       by : Stands records faults gives (whole past x) (whole past z) ⊎ IsGivenUp records gives faults service past call (whole past x) (whole past z) → Stands records faults gives x z ⊎ IsGivenUp records gives faults service past call x z

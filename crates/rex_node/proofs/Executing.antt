@@ -57,27 +57,27 @@ module _ {service : Declarations} {values : List Value} {a : ActingValue} (h : E
   -- the state after what the node knows and its live events is the recorder's
   pub live_state_is : {vs : List Value} {w : Option ActingValue} → values ≡ vs → w ≡ Some a → state_after service (trace_of vs ++ (work_of w).live) ≡ a.recorder.state
   live_state_is {vs} e f =
-      ap (λ (u : Option ActingValue). state_after service (trace_of vs ++ (work_of u).live)) f
-      ∙ ap (λ (us : List Value). state_after service (trace_of us ++ a.recorder.live)) (sym e)
+      ap (λ u. state_after service (trace_of vs ++ (work_of u).live)) f
+      ∙ ap (λ us. state_after service (trace_of us ++ a.recorder.live)) (sym e)
       ∙ live_is
 
   -- the answer to a request is the one in the model
   pub answer_is : (r : Request) {vs : List Value} {w : Option ActingValue} → values ≡ vs → w ≡ Some a
       → answer_in a r ≡ answer_to r (queued_in (work_of w).queue r.client) (state_after service (trace_of vs ++ (work_of w).live)).clients (state_after service (trace_of vs)).clients
   answer_is r {vs} e f =
-      ap (λ (s : StateValue). answer_to r (queued_in a.recorder.queue r.client) s.clients a.answers.entries) (sym live_is)
-      ∙ ap (λ (known : List Entry). answer_to r (queued_in a.recorder.queue r.client) (state_after service (trace_of values ++ a.recorder.live)).clients known) (h.answers ∙ ap (λ (s : StateValue). s.clients) (sym start_is))
-      ∙ ap (λ (us : List Value). answer_to r (queued_in a.recorder.queue r.client) (state_after service (trace_of us ++ a.recorder.live)).clients (state_after service (trace_of us)).clients) e
-      ∙ ap (λ (u : Option ActingValue). answer_to r (queued_in (work_of u).queue r.client) (state_after service (trace_of vs ++ (work_of u).live)).clients (state_after service (trace_of vs)).clients) (sym f)
+      ap (λ s. answer_to r (queued_in a.recorder.queue r.client) s.clients a.answers.entries) (sym live_is)
+      ∙ ap (λ known. answer_to r (queued_in a.recorder.queue r.client) (state_after service (trace_of values ++ a.recorder.live)).clients known) (h.answers ∙ ap (λ s. s.clients) (sym start_is))
+      ∙ ap (λ us. answer_to r (queued_in a.recorder.queue r.client) (state_after service (trace_of us ++ a.recorder.live)).clients (state_after service (trace_of us)).clients) e
+      ∙ ap (λ u. answer_to r (queued_in (work_of u).queue r.client) (state_after service (trace_of vs ++ (work_of u).live)).clients (state_after service (trace_of vs)).clients) (sym f)
 
   -- so is the turn of a lane
   pub turn_is : (lane : ℕ) (now : ℤ) {vs : List Value} {w : Option ActingValue} → values ≡ vs → w ≡ Some a
       → turn_of service a.recorder.state a.recorder.queue (length a.recorder.live) lane now (pcg32 a.dice).0
       ≡ turn_of service (state_after service (trace_of vs ++ (work_of w).live)) (work_of w).queue (length (work_of w).live) lane now (pcg32 (work_of w).dice).0
   turn_is lane now {vs} e f =
-      ap (λ (s : StateValue). turn_of service s a.recorder.queue (length a.recorder.live) lane now (pcg32 a.dice).0) (sym live_is)
-      ∙ ap (λ (us : List Value). turn_of service (state_after service (trace_of us ++ a.recorder.live)) a.recorder.queue (length a.recorder.live) lane now (pcg32 a.dice).0) e
-      ∙ ap (λ (u : Option ActingValue). turn_of service (state_after service (trace_of vs ++ (work_of u).live)) (work_of u).queue (length (work_of u).live) lane now (pcg32 (work_of u).dice).0) (sym f)
+      ap (λ s. turn_of service s a.recorder.queue (length a.recorder.live) lane now (pcg32 a.dice).0) (sym live_is)
+      ∙ ap (λ us. turn_of service (state_after service (trace_of us ++ a.recorder.live)) a.recorder.queue (length a.recorder.live) lane now (pcg32 a.dice).0) e
+      ∙ ap (λ u. turn_of service (state_after service (trace_of vs ++ (work_of u).live)) (work_of u).queue (length (work_of u).live) lane now (pcg32 (work_of u).dice).0) (sym f)
 
   -- the recorder could still begin each request after an answer
   requests_kept : {r : Request} (e : Answer) → RequestFits service r → All (RequestFits service) (queue_with a.recorder.queue r e)
@@ -121,9 +121,9 @@ module _ {service : Declarations} {values : List Value} {a : ActingValue} (h : E
       → taken_turn service a.recorder.state a.recorder.queue (length a.recorder.live) e
       ≡ taken_turn service (state_after service (trace_of vs ++ (work_of w).live)) (work_of w).queue (length (work_of w).live) e
   given_is e {vs} i f =
-      ap (λ (s : StateValue). taken_turn service s a.recorder.queue (length a.recorder.live) e) (sym live_is)
-      ∙ ap (λ (us : List Value). taken_turn service (state_after service (trace_of us ++ a.recorder.live)) a.recorder.queue (length a.recorder.live) e) i
-      ∙ ap (λ (u : Option ActingValue). taken_turn service (state_after service (trace_of vs ++ (work_of u).live)) (work_of u).queue (length (work_of u).live) e) (sym f)
+      ap (λ s. taken_turn service s a.recorder.queue (length a.recorder.live) e) (sym live_is)
+      ∙ ap (λ us. taken_turn service (state_after service (trace_of us ++ a.recorder.live)) a.recorder.queue (length a.recorder.live) e) i
+      ∙ ap (λ u. taken_turn service (state_after service (trace_of vs ++ (work_of u).live)) (work_of u).queue (length (work_of u).live) e) (sym f)
 
 -- ---- what the recorder may take
 
@@ -180,7 +180,7 @@ module _ {K : Type 0} (records : K → List (List ℕ)) (service : Declarations)
     start = u.start;
     replayed = record { based = u.replayed.based; replayed = u.replayed.replayed };
     ahead = λ n. absurd (none_or_some n);
-    caught_up = λ _. u.caught_up (ap (λ (w : Option ActingValue). is_some w) e);
+    caught_up = λ _. u.caught_up (ap (λ w. is_some w) e);
     proposer = u.proposer;
     acting = acting_with x.acceptor _ (subst (IsActing service x.known x.acceptor x.proposer) e u.acting) k;
     stamped = subst (NumbersReplies x.known) (sym k.0) (subst (HasStamps x.known) e u.stamped);
@@ -188,7 +188,7 @@ module _ {K : Type 0} (records : K → List (List ℕ)) (service : Declarations)
     short = u.short;
     numbers = record {
       log = u.numbers.log;
-      role = subst (λ (w : Option ActingValue). RoleFits (length (known (here_of records service past x).log)) (role_of x.acceptor x.proposer (is_some w))) e u.numbers.role;
+      role = subst (λ w. RoleFits (length (known (here_of records service past x).log)) (role_of x.acceptor x.proposer (is_some w))) e u.numbers.role;
     };
   }
 
@@ -199,7 +199,7 @@ module _ {K : Type 0} (records : K → List (List ℕ)) (service : Declarations)
     up = λ t. up_with (h.up t) e k;
     reached = h.reached;
     decoded = h.decoded;
-    rests = λ t. subst (λ (w : Option ActingValue). HasGoneOn x.proposer (is_some w)) e (h.rests t);
+    rests = λ t. subst (λ w. HasGoneOn x.proposer (is_some w)) e (h.rests t);
   }
 
   -- ---- what the calls of an active node lead to
@@ -207,19 +207,19 @@ module _ {K : Type 0} (records : K → List (List ℕ)) (service : Declarations)
   submitted : (r : Request) → x.acting ≡ Some a → known (here_of records service past x).log ≡ x.known → Executes service x.known a
       → here_of records service past (record x { acting = Some (taken a r (answer_in a r)) }) ≡ (submit_request service (Some r) (begin (here_of records service past x))).node
   submitted r e k h =
-      ap (λ (answer : Answer). here_of records service past (record x { acting = Some (taken a r answer) })) (answer_is h r (sym k) e)
-      ∙ ap (λ (w : Option ActingValue). (lanes.answered r (answer_to r (queued_in (work_of x.acting).queue r.client) (live_state service (here_of records service past x)).clients (known_state service (here_of records service past x)).clients) (begin (here_of records service past (record x { acting = w })))).node) (sym e)
+      ap (λ answer. here_of records service past (record x { acting = Some (taken a r answer) })) (answer_is h r (sym k) e)
+      ∙ ap (λ w. (lanes.answered r (answer_to r (queued_in (work_of x.acting).queue r.client) (live_state service (here_of records service past x)).clients (known_state service (here_of records service past x)).clients) (begin (here_of records service past (record x { acting = w })))).node) (sym e)
 
   turned_to : (lane : ℕ) (t : Turn) → x.acting ≡ Some a → known (here_of records service past x).log ≡ x.known → Executes service x.known a
       → here_of records service past (record x { acting = Some (record { recorder = turned service a.recorder t; dice = dice_after (does_draw service a.recorder.state (length a.recorder.live) lane) a.dice; proposed = a.proposed; answers = a.answers }) })
       ≡ (lanes.turned service lane t (begin (here_of records service past x))).node
   turned_to lane t e k h =
-      ap (λ (s : StateValue). here_of records service past (record x { acting = Some (record { recorder = turned service a.recorder t; dice = dice_after (does_draw service s (length a.recorder.live) lane) a.dice; proposed = a.proposed; answers = a.answers }) }))
+      ap (λ s. here_of records service past (record x { acting = Some (record { recorder = turned service a.recorder t; dice = dice_after (does_draw service s (length a.recorder.live) lane) a.dice; proposed = a.proposed; answers = a.answers }) }))
       (sym (live_state_is h (sym k) refl))
-      ∙ ap (λ (w : Option ActingValue). (lanes.turned service lane t (begin (here_of records service past (record x { acting = w })))).node) (sym e)
+      ∙ ap (λ w. (lanes.turned service lane t (begin (here_of records service past (record x { acting = w })))).node) (sym e)
 
   given_to : (t : Turn) → x.acting ≡ Some a → here_of records service past (record x { acting = Some (given service a t) }) ≡ (takes.taken t (begin (here_of records service past x))).node
-  given_to t e = ap (λ (w : Option ActingValue). (takes.taken t (begin (here_of records service past (record x { acting = w })))).node) (sym e)
+  given_to t e = ap (λ w. (takes.taken t (begin (here_of records service past (record x { acting = w })))).node) (sym e)
 
 -- a node that isn't refused is up
 pub up_of : (b : Bool) (o : Option Refusal) → if_up b o ≡ None → b ≡ true
@@ -230,7 +230,7 @@ up_of false o e = absurd (cc)
 
 module _ {K : Type 0} {records : K → List (List ℕ)} {service : Declarations} {past : List Value} {x z : NodeValue K} {a : ActingValue} (z_is : z ≡ x) (node : IsResting records service past x) (o : Option Refusal) (due : if_up x.up o ≡ None) (e : Some a ≡ z.acting) where
   x_has : x.acting ≡ Some a
-  x_has = ap (λ (n : NodeValue K). n.acting) (sym z_is) ∙ sym e
+  x_has = ap (λ n. n.acting) (sym z_is) ∙ sym e
 
   is_up : IsUp service x (here_of records service past x)
   is_up = node.up (up_of x.up o due)
@@ -250,40 +250,40 @@ module _ {K : Type 0} {records : K → List (List ℕ)} {service : Declarations}
   pub submit_leads : (r : Request) {b : ActingValue} {answer : Answer} → b ≡ taken a r answer → answer ≡ answer_in a r
       → here_of records service past (record z { acting = Some b }) ≡ (submit_request service (Some r) (begin (here_of records service past x))).node
   submit_leads r {b} f g =
-      ap (λ (n : NodeValue K). here_of records service past (record n { acting = Some b })) z_is
-      ∙ ap (λ (c : ActingValue). here_of records service past (record x { acting = Some c })) (f ∙ ap (taken a r) g)
+      ap (λ n. here_of records service past (record n { acting = Some b })) z_is
+      ∙ ap (λ c. here_of records service past (record x { acting = Some c })) (f ∙ ap (taken a r) g)
       ∙ submitted records service past x a b r x_has (sym is_up.known) has
 
   pub turn_leads : (lane : ℕ) (t : Turn) {b : ActingValue} → b ≡ record { recorder = turned service a.recorder t; dice = dice_after (does_draw service a.recorder.state (length a.recorder.live) lane) a.dice; proposed = a.proposed; answers = a.answers }
       → LeadsTo (lanes.turned service lane t) (here_of records service past x) (here_of records service past (record z { acting = Some b }))
   turn_leads lane t {b} f =
-      ap (λ (n : NodeValue K). here_of records service past (record n { acting = Some b })) z_is
-      ∙ ap (λ (c : ActingValue). here_of records service past (record x { acting = Some c })) f
+      ap (λ n. here_of records service past (record n { acting = Some b })) z_is
+      ∙ ap (λ c. here_of records service past (record x { acting = Some c })) f
       ∙ turned_to records service past x a b lane t x_has (sym is_up.known) has
 
   pub stays : {b : ActingValue} → ActsAlike service x.known a b → StaysResting records service past x (record z { acting = Some b })
   stays {b} k =
-      subst (λ (n : NodeValue K). StaysResting records service past x (record n { acting = Some b })) (sym z_is)
+      subst (λ n. StaysResting records service past x (record n { acting = Some b })) (sym z_is)
       (record { same = record { id = refl; nodes = refl; seed = refl; decoded = refl }; kept = node_with records service past x a b node x_has k })
 
   pub submit_stays : {r : Request} {b : ActingValue} {answer : Answer} → b ≡ taken a r answer → answer ≡ answer_in a r → IsService service → RequestFits service r → StaysResting records service past x (record z { acting = Some b })
-  submit_stays {r} {b} f g good fits = stays (ap (λ (c : ActingValue). c.answers) f, λ p h. subst (ActsFor service x.known p) (sym (f ∙ ap (taken a r) g)) (record { executes = answered h.executes good fits; open_is_cut = open_answered service x.known a r _ p h.open_is_cut }))
+  submit_stays {r} {b} f g good fits = stays (ap (λ c. c.answers) f, λ p h. subst (ActsFor service x.known p) (sym (f ∙ ap (taken a r) g)) (record { executes = answered h.executes good fits; open_is_cut = open_answered service x.known a r _ p h.open_is_cut }))
 
   pub turn_stays : (t : Turn) {dice : Lcg} {b : ActingValue} → b ≡ record { recorder = turned service a.recorder t; dice = dice; proposed = a.proposed; answers = a.answers } → IsRecorder service b.recorder → IsService service → StaysResting records service past x (record z { acting = Some b })
   turn_stays t {dice} {b} f k good =
-      let kept : IsRecorder service (turned service a.recorder t) = subst (λ (c : ActingValue). IsRecorder service c.recorder) f k in
-      stays (ap (λ (c : ActingValue). c.answers) f, λ p h. subst (ActsFor service x.known p) (sym f) (record { executes = turned_executes h.executes t kept; open_is_cut = open_turned good h.executes t dice kept p h.open_is_cut }))
+      let kept : IsRecorder service (turned service a.recorder t) = subst (λ c. IsRecorder service c.recorder) f k in
+      stays (ap (λ c. c.answers) f, λ p h. subst (ActsFor service x.known p) (sym f) (record { executes = turned_executes h.executes t kept; open_is_cut = open_turned good h.executes t dice kept p h.open_is_cut }))
 
   pub given_of_node : (event : Event) → taken_turn service a.recorder.state a.recorder.queue (length a.recorder.live) event ≡ takes.taken_in service (here_of records service past x) event
   given_of_node event = given_is has event is_up.known x_has
 
   pub given_leads : (t : Turn) {b : ActingValue} → b ≡ given service a t → LeadsTo (takes.taken t) (here_of records service past x) (here_of records service past (record z { acting = Some b }))
   given_leads t {b} f =
-      ap (λ (n : NodeValue K). here_of records service past (record n { acting = Some b })) z_is
-      ∙ ap (λ (c : ActingValue). here_of records service past (record x { acting = Some c })) f
+      ap (λ n. here_of records service past (record n { acting = Some b })) z_is
+      ∙ ap (λ c. here_of records service past (record x { acting = Some c })) f
       ∙ given_to records service past x a b t x_has
 
   pub given_stays : (t : Turn) {b : ActingValue} → b ≡ given service a t → IsRecorder service b.recorder → IsService service → StaysResting records service past x (record z { acting = Some b })
   given_stays t {b} f k good =
-      let kept : IsRecorder service (given service a t).recorder = subst (λ (c : ActingValue). IsRecorder service c.recorder) f k in
-      stays (ap (λ (c : ActingValue). c.answers) f, λ p h. subst (ActsFor service x.known p) (sym f) (record { executes = given_executes h.executes t kept; open_is_cut = open_turned good h.executes t a.dice kept p h.open_is_cut }))
+      let kept : IsRecorder service (given service a t).recorder = subst (λ c. IsRecorder service c.recorder) f k in
+      stays (ap (λ c. c.answers) f, λ p h. subst (ActsFor service x.known p) (sym f) (record { executes = given_executes h.executes t kept; open_is_cut = open_turned good h.executes t a.dice kept p h.open_is_cut }))

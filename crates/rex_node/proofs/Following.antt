@@ -37,8 +37,8 @@ module _ {K : Type 0} (records : K → List (List ℕ)) (service : Declarations)
   -- a draft with these effects and messages
   pub far : (draft : Draft) {es : List Effect} {ms : List (Message Value)} → draft.effects.items ≡ es → map (message_in past) draft.sends.items ≡ ms → so_far records service past x draft ≡ call_at (here_of records service past x) ms es
   far draft {es} e m =
-      ap (λ (f : List Effect). call_at (here_of records service past x) (map (message_in past) draft.sends.items) f) e
-      ∙ ap (λ (n : List (Message Value)). call_at (here_of records service past x) n es) m
+      ap (λ f. call_at (here_of records service past x) (map (message_in past) draft.sends.items) f) e
+      ∙ ap (λ n. call_at (here_of records service past x) n es) m
 
 -- a node is kept within a call too
 pub within : {K : Type 0} {records : K → List (List ℕ)} {service : Declarations} {past : List Value} {x : NodeValue K} → IsResting records service past x → IsKept records service past x
@@ -56,8 +56,8 @@ module _ {K : Type 0} (records : K → List (List ℕ)) (gives : K → List ℕ 
       → ((f : Option Failure) → whole (armed_with f (so_far records service past x before)) ≡ armed_with f (so_far records service past z after)) → EndsWell whole
   ends_same {whole} same node up h = (
     (
-      subst (λ (k : K). Leads records gives faults service whole (λ d. d) x.keeper k (so_far records service past x before) (so_far records service past z after)) (sym same)
-          (leads_same records gives faults service (ap (λ (k : K). length (log_of service past (records k))) same) h),
+      subst (λ k. Leads records gives faults service whole (λ d. d) x.keeper k (so_far records service past x before) (so_far records service past z after)) (sym same)
+          (leads_same records gives faults service (ap (λ k. length (log_of service past (records k))) same) h),
       within node,
       up,
     ),
@@ -77,34 +77,34 @@ module _ {K : Type 0} {records : K → List (List ℕ)} (gives : K → List ℕ 
       ends_same records gives faults service past x x before after refl node up
       (λ f. by f x.proposer own_is ∙ ap (armed_with f) (sym (far records service past x after effects (ap (map (message_in past)) sends))))
     where
-      by : (f : Option Failure) (o : Option ProposerValue) → option_map (λ (p : ProposerValue). p.ballot) o ≡ Some own
+      by : (f : Option Failure) (o : Option ProposerValue) → option_map (λ p. p.ballot) o ≡ Some own
           → on_nack x.id promised (armed_with f (so_far records service past x before)) (role_of x.acceptor o (is_some x.acting)) ≡ armed_with f (say (IgnoredBallot promised own) (so_far records service past x before))
       by f None e = absurd (cc)
       by f (Some p) e =
           let b : p.ballot ≡ own = same_Some p.ballot own e in
-          ap (λ (t : Bool). if t then follow x.id [] (armed_with f (so_far records service past x before)) else say (IgnoredBallot promised p.ballot) (armed_with f (so_far records service past x before)))
+          ap (λ t. if t then follow x.id [] (armed_with f (so_far records service past x before)) else say (IgnoredBallot promised p.ballot) (armed_with f (so_far records service past x before)))
           (le-ltb p.ballot promised (omega (arith, b)))
-          ∙ ap (λ (c : ℕ). say (IgnoredBallot promised c) (armed_with f (so_far records service past x before))) b
+          ∙ ap (λ c. say (IgnoredBallot promised c) (armed_with f (so_far records service past x before))) b
 
   -- one above it makes the node a follower
   pub nack_follows : {z : NodeValue K} → own < promised → z ≡ leaving x → Tells before after (followed x.id (role_of x.acceptor x.proposer (is_some x.acting)))
       → EndsWell records gives faults service past x z before after (λ d. on_nack x.id promised d d.node.role)
   nack_follows less z_is told =
-      subst (λ (n : NodeValue K). EndsWell records gives faults service past x n before after (λ d. on_nack x.id promised d d.node.role)) (sym z_is)
+      subst (λ n. EndsWell records gives faults service past x n before after (λ d. on_nack x.id promised d d.node.role)) (sym z_is)
       (ends_same records gives faults service past x _ before after refl (node_left node) up
       (λ f. by f x.proposer own_is ∙ ap (armed_with f) (sym left)))
     where
       left : so_far records service past (leaving x) after ≡ follow x.id [] (so_far records service past x before)
       left =
           far records service past (leaving x) after told.effects_are (ap (map (message_in past)) told.sends_are)
-          ∙ ap (λ (h : Here). call_at h (map (message_in past) before.sends.items) (before.effects.items ++ followed x.id (role_of x.acceptor x.proposer (is_some x.acting)))) (leaves records past (node.up up))
+          ∙ ap (λ h. call_at h (map (message_in past) before.sends.items) (before.effects.items ++ followed x.id (role_of x.acceptor x.proposer (is_some x.acting)))) (leaves records past (node.up up))
 
-      by : (f : Option Failure) (o : Option ProposerValue) → option_map (λ (p : ProposerValue). p.ballot) o ≡ Some own
+      by : (f : Option Failure) (o : Option ProposerValue) → option_map (λ p. p.ballot) o ≡ Some own
           → on_nack x.id promised (armed_with f (so_far records service past x before)) (role_of x.acceptor o (is_some x.acting)) ≡ armed_with f (follow x.id [] (so_far records service past x before))
       by f None e = absurd (cc)
       by f (Some p) e =
           let b : p.ballot ≡ own = same_Some p.ballot own e in
-          ap (λ (t : Bool). if t then follow x.id [] (armed_with f (so_far records service past x before)) else say (IgnoredBallot promised p.ballot) (armed_with f (so_far records service past x before)))
+          ap (λ t. if t then follow x.id [] (armed_with f (so_far records service past x before)) else say (IgnoredBallot promised p.ballot) (armed_with f (so_far records service past x before)))
           (lt-ltb p.ballot promised (omega (arith, b)))
 
 -- ---- a chosen value of another instance than the next
@@ -116,13 +116,13 @@ module _ {K : Type 0} {records : K → List (List ℕ)} (gives : K → List ℕ 
   chosen_ignored next_is other effects sends =
       ends_same records gives faults service past x x before after refl node up
       (λ f.
-      ap (λ (t : Bool). if t then append f x.id (Known i v) (armed_with f (so_far records service past x before)) (λ e. follow x.id (effect.Known x.id i ∷ []) e) else say (IgnoredInstance i (suc (length (known (here_of records service past x).log)))) (armed_with f (so_far records service past x before)))
+      ap (λ t. if t then append f x.id (Known i v) (armed_with f (so_far records service past x before)) (λ e. follow x.id (effect.Known x.id i ∷ []) e) else say (IgnoredInstance i (suc (length (known (here_of records service past x).log)))) (armed_with f (so_far records service past x before)))
       (ne_eqb i (suc (length (known (here_of records service past x).log))) (λ e. other (e ∙ sym here)))
-      ∙ ap (λ (n : ℕ). say (IgnoredInstance i n) (armed_with f (so_far records service past x before))) (sym here)
+      ∙ ap (λ n. say (IgnoredInstance i n) (armed_with f (so_far records service past x before))) (sym here)
       ∙ ap (armed_with f) (sym (far records service past x after effects (ap (map (message_in past)) sends))))
     where
       here : next ≡ suc (length (known (here_of records service past x).log))
-      here = next_is ∙ ap (λ (vs : List Value). suc (length vs)) (node.up up).known
+      here = next_is ∙ ap (λ vs. suc (length vs)) (node.up up).known
 
 -- ---- a follower with one record more
 
@@ -140,10 +140,10 @@ module _ {K : Type 0} {records : K → List (List ℕ)} {service : Declarations}
   -- it is in the model the node that follows after the record
   pub follower_here : (ms : List (Message Value)) (es : List Effect) → here_of records service past follower ≡ (with_role Follower (logged r None (call_at (here_of records service past x) ms es))).node
   follower_here ms es =
-      ap (λ (l : List (Rec Value StateValue)). record (here_of records service past (leaving x)) { log = l }) log_is
-      ∙ ap (λ (b : ℕ). record h { log = r ∷ h.log; role = Follower; work = no_work; replayed = replayed_left (is_some x.acting) b x.replayed }) (u.base ∙ sym base_is)
-      ∙ ap (λ (work : Work). record h { log = r ∷ h.log; role = Follower; work = work; replayed = replayed_left (is_some x.acting) (base (r ∷ h.log)) x.replayed }) (sym (no_work_left x.acting))
-      ∙ ap (λ (t : Bool). record h { log = r ∷ h.log; role = Follower; work = work_left t (work_of x.acting); replayed = replayed_left t (base (r ∷ h.log)) x.replayed }) (sym (role_active service x.known x.acceptor _ x.acting u.acting))
+      ap (λ l. record (here_of records service past (leaving x)) { log = l }) log_is
+      ∙ ap (λ b. record h { log = r ∷ h.log; role = Follower; work = no_work; replayed = replayed_left (is_some x.acting) b x.replayed }) (u.base ∙ sym base_is)
+      ∙ ap (λ work. record h { log = r ∷ h.log; role = Follower; work = work; replayed = replayed_left (is_some x.acting) (base (r ∷ h.log)) x.replayed }) (sym (no_work_left x.acting))
+      ∙ ap (λ t. record h { log = r ∷ h.log; role = Follower; work = work_left t (work_of x.acting); replayed = replayed_left t (base (r ∷ h.log)) x.replayed }) (sym (role_active service x.known x.acceptor _ x.acting u.acting))
     where
       h : Here
       h = here_of records service past x
@@ -152,7 +152,7 @@ module _ {K : Type 0} {records : K → List (List ℕ)} {service : Declarations}
   follower_node = record { id = node.id; few = node.few; up = λ t. follower_up; reached = still_reached service x.offset x.reached more front node.reached; decoded = node.decoded; rests = λ t. tt }
     where
       l : IsLogged service (record x { keeper = k; acceptor = a; known = vs }) (log_of service past (records k))
-      l = subst (λ (log : List (Rec Value StateValue)). IsLogged service (record x { keeper = k; acceptor = a; known = vs }) log) (sym log_is) logged_here
+      l = subst (λ log. IsLogged service (record x { keeper = k; acceptor = a; known = vs }) log) (sym log_is) logged_here
 
       b : Beside records service past x
       b = beside_of records service past x u
@@ -167,7 +167,7 @@ module _ {K : Type 0} {records : K → List (List ℕ)} {service : Declarations}
           (record {
             based = replayed_from x.acting b.based;
             replayed = le_trans to more;
-            ahead = λ _. ap (λ (us : List Value). run service (start_of service) (trace_of us)) (front (replayed_left (is_some x.acting) x.base x.replayed) to)
+            ahead = λ _. ap (λ us. run service (start_of service) (trace_of us)) (front (replayed_left (is_some x.acting) x.base x.replayed) to)
                 ∙ state_left (λ n s. run service (start_of service) (trace_of (take n x.known)) ≡ Some s) x.acting x.ahead u.start u.ahead;
             caught_up = λ t. absurd (false≢true t);
             proposer = tt;

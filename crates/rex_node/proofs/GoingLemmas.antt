@@ -58,12 +58,12 @@ module _ {K : Type 0} (records : K → List (List ℕ)) (gives : K → List ℕ 
   pub leads_then : {whole middle rest : CallHere → CallHere} {a b c : K} {d e f : CallHere} → Leads records gives faults service whole middle a b d e → Leads records gives faults service middle rest b c e f → Leads records gives faults service whole rest a c d f
   leads_then {whole} {a} {b} {c} {d} {e} {f} h k = record {
     written = h.written ++ k.written;
-    grown = k.grown ∙ ap (λ (l : List (List ℕ)). l ++ k.written) h.grown ∙ append_assoc (records a) h.written k.written;
+    grown = k.grown ∙ ap (λ l. l ++ k.written) h.grown ∙ append_assoc (records a) h.written k.written;
     appends = (chained gives).more a b c h.written k.written (Ok tt) h.appends k.appends;
     counted = k.counted ∙ h.counted;
     stated = stated_both service h.written k.written h.stated k.stated;
     many = both h.written k.written _ h.many k.many;
-    comes = λ failure. ap (λ (g : Option Failure). whole (armed_with g d)) (later_both h.written k.written failure) ∙ h.comes (later k.written failure) ∙ k.comes failure;
+    comes = λ failure. ap (λ g. whole (armed_with g d)) (later_both h.written k.written failure) ∙ h.comes (later k.written failure) ∙ k.comes failure;
   }
 
   pub leads_fell : {whole rest : CallHere → CallHere} {id : ℕ} {a b c : K} {d e f : CallHere} → Leads records gives faults service whole rest a b d e → Fell records gives faults service rest id b c e f → Fell records gives faults service whole id a c d f
@@ -73,13 +73,13 @@ module _ {K : Type 0} (records : K → List (List ℕ)) (gives : K → List ℕ 
       bytes = k.fails.bytes;
       kept = k.fails.kept;
       between = k.fails.between;
-      grown = k.fails.grown ∙ ap (λ (l : List (List ℕ)). failed_records k.fails.kept l k.fails.bytes) (ap (λ (l : List (List ℕ)). l ++ k.fails.written) h.grown ∙ append_assoc (records a) h.written k.fails.written);
+      grown = k.fails.grown ∙ ap (λ l. failed_records k.fails.kept l k.fails.bytes) (ap (λ l. l ++ k.fails.written) h.grown ∙ append_assoc (records a) h.written k.fails.written);
       appends = (chained gives).more a b k.fails.between h.written k.fails.written (Ok tt) h.appends k.fails.appends;
       fails = k.fails.fails;
-      counted = subst (λ (n : ℕ). n < faults c) h.counted k.fails.counted;
+      counted = subst (λ n. n < faults c) h.counted k.fails.counted;
       stated = rw (append_assoc h.written k.fails.written (k.fails.bytes ∷ [])) (stated_both service h.written _ h.stated k.fails.stated);
       many = both_failed _ h.written _ _ h.many k.fails.many;
-      is = ap (λ (g : Option Failure). whole (armed_with g d)) (sym (later_count h.written _)) ∙ h.comes (Some (After (length k.fails.written) k.fails.kept)) ∙ k.fails.is;
+      is = ap (λ g. whole (armed_with g d)) (sym (later_count h.written _)) ∙ h.comes (Some (After (length k.fails.written) k.fails.kept)) ∙ k.fails.is;
     };
     front = k.front;
     told = k.told;
@@ -109,17 +109,17 @@ module _ {K : Type 0} (records : K → List (List ℕ)) (gives : K → List ℕ 
         bytes = bytes;
         kept = kept;
         between = old;
-        grown = grown ∙ ap (λ (l : List (List ℕ)). failed_records kept l bytes) (sym (append-nil (records old)));
+        grown = grown ∙ ap (λ l. failed_records kept l bytes) (sym (append-nil (records old)));
         appends = (refl, refl);
         fails = answer;
         counted = counted;
         stated = stated_one service bytes stated;
-        many = ap (λ (c : CallHere). length c.node.log) e ∙ one_failed kept;
+        many = ap (λ c. length c.node.log) e ∙ one_failed kept;
         is = is (Some (After 0 kept)) ∙ sym e;
       };
       front = d.effects;
-      told = ap (λ (c : CallHere). c.effects) e;
-      quiet = ap (λ (c : CallHere). c.sends) e;
+      told = ap (λ c. c.effects) e;
+      quiet = ap (λ c. c.sends) e;
     }
       where
         one_failed : (kept : Bool) → length (if kept then r ∷ d.node.log else d.node.log) ≡ failed_many kept 0 + length d.node.log

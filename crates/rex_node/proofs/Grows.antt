@@ -28,7 +28,7 @@ module _ {V S : Type 0} where
     pub begins : Begins (known d.node.log) (known e.node.log)
 
   pub learns_same : {d e : Call V S} → e.node.log ≡ d.node.log → Learns d e
-  learns_same {d} h = record { begins = subst (λ (log : List (Rec V S)). Begins (known d.node.log) (known log)) (sym h) (begins_same _) }
+  learns_same {d} h = record { begins = subst (λ log. Begins (known d.node.log) (known log)) (sym h) (begins_same _) }
 
   same : {d e : Call V S} → e.node.log ≡ d.node.log → Learns d e
   same {d} {e} h = learns_same h
@@ -50,7 +50,7 @@ module _ {V S : Type 0} where
   more (Transferred values s) log own = absurd own
 
   pub learns_more : {d e : Call V S} {r : Rec V S} → IsOwn r → e.node.log ≡ r ∷ d.node.log → Learns d e
-  learns_more {d} {r} own h = record { begins = subst (λ (log : List (Rec V S)). Begins (known d.node.log) (known log)) (sym h) (more r _ own) }
+  learns_more {d} {r} own h = record { begins = subst (λ log. Begins (known d.node.log) (known log)) (sym h) (more r _ own) }
 
   if_learns : (t : Bool) {d e f : Call V S} → Learns d e → Learns d f → Learns d (cond t e f)
   if_learns true h k = h
@@ -100,11 +100,11 @@ module _ {V S : Type 0} (n : ℕ) (sv : Service V S) (me : ℕ) where
 module _ {service : Declarations} (good : IsService service) (checked : IsChecked service) where
   -- a front of values that fit fits
   pub begins_fit : (vs : List Value) {ws : List Value} → Begins vs ws → values_fit service ws ≡ true → values_fit service vs ≡ true
-  begins_fit vs b h = shorter b.0 vs (subst (λ (us : List Value). values_fit service us ≡ true) (sym b.1) h)
+  begins_fit vs b h = shorter b.0 vs (subst (λ us. values_fit service us ≡ true) (sym b.1) h)
     where
       shorter : (rest us : List Value) → values_fit service (us ++ rest) ≡ true → values_fit service us ≡ true
-      shorter [] us k = subst (λ (xs : List Value). values_fit service xs ≡ true) (append-nil us) k
-      shorter (v ∷ rest) us k = fits_front service good checked us v (shorter rest (us ++ v ∷ []) (subst (λ (xs : List Value). values_fit service xs ≡ true) (sym (append_assoc us (v ∷ []) rest)) k))
+      shorter [] us k = subst (λ xs. values_fit service xs ≡ true) (append-nil us) k
+      shorter (v ∷ rest) us k = fits_front service good checked us v (shorter rest (us ++ v ∷ []) (subst (λ xs. values_fit service xs ≡ true) (sym (append_assoc us (v ∷ []) rest)) k))
 
   -- what a call knows at first fits where what it knows in the end does
   pub fits_before : {d e : CallHere} → Learns d e → values_fit service (known e.node.log) ≡ true → values_fit service (known d.node.log) ≡ true
@@ -119,6 +119,6 @@ pub rest_runs : {K : Type 0} {records : K → List (List ℕ)} {gives : K → Li
     → LeadsOn records gives faults service whole rest x.keeper y.keeper (so_far records service past x before) (so_far records service past y after)
     → RunsOn service whole (so_far records service past x before) → RunsOn service rest (so_far records service past y after)
 rest_runs {records} {service} past {whole} x y before after h runs =
-    subst (λ (d : CallHere). values_fit service (known d.node.log) ≡ true)
-    (ap (λ (f : Option Failure). whole (record (so_far records service past x before) { node = record (so_far records service past x before).node { armed = f } })) (sym (later_none h.written)) ∙ h.comes None)
+    subst (λ d. values_fit service (known d.node.log) ≡ true)
+    (ap (λ f. whole (record (so_far records service past x before) { node = record (so_far records service past x before).node { armed = f } })) (sym (later_none h.written)) ∙ h.comes None)
     runs

@@ -36,7 +36,7 @@ short_isn't_held offset (k ∷ a ∷ b ∷ c ∷ d ∷ content) l = absurd (omeg
 known_held : (offset : ℕ) {instance : ℕ} {value : List ℕ} → HasSpelling (Known instance value) → is_held offset (record_bytes (Known instance value)) ≡ nat_lt offset instance
 known_held offset {instance} s =
     let few : instance < 2 ^ 32 = (let last = s.in_range.0.last in omega arith) in
-    ap (λ (n : ℕ). nat_lt offset n) (from_be_bytes-to_be_bytes_4 instance few)
+    ap (λ n. nat_lt offset n) (from_be_bytes-to_be_bytes_4 instance few)
 
 -- a state is looked into where none comes behind it
 only_last : (later : Bool) {last bad : Option ℕ} → (later ≡ false → last ≡ bad) → (if not later then last else None) ≡ (if later then None else bad)
@@ -53,7 +53,7 @@ pub bad_is : (service : Declarations) (offset : ℕ) {last : Option ℕ} (r : Re
 bad_is service offset (Promised ballot) rs s h = refl
 bad_is service offset (Accepted ballot instance value) rs s h = refl
 bad_is service offset (Known instance value) rs s h =
-    ap (λ (held : Bool). if held then bad_at (delta_in value) else None) (known_held offset s)
+    ap (λ held. if held then bad_at (delta_in value) else None) (known_held offset s)
 bad_is service offset {last} (Checkpoint deltas snapshot) rs s h =
     only_last _ (h (record { deltas = deltas; snapshot = snapshot }) refl)
 bad_is service offset (Dropped deltas) rs s h = refl
@@ -93,7 +93,7 @@ pub is_last : (service : Declarations) {last : Option ℕ} {all : List Rec} (fro
     → IsLast service last r rs
 is_last service {all} front r rs parts read = λ saved is none.
     let found : checkpoint all ≡ Some saved = ap checkpoint parts ∙ last_later front r rs None is none in
-    read ∙ ap (λ (o : Option Saved). bad_at (state_at service (snapshot_of o))) found
+    read ∙ ap (λ o. bad_at (state_at service (snapshot_of o))) found
 
 -- so is the version of the last checkpoint, if there is one, where this record is the last one
 old_is : (before : Bool) (r : Rec) → old_behind before (get_or (record_bytes r) 0 0) (drop 9 (record_bytes r)) ≡ old_in before r
@@ -128,7 +128,7 @@ module _ {kept : List (List ℕ)} {rs : List Rec} (s : Spell kept rs) where
 
   -- each list of bytes spells its record
   pub spelled_at : {index : ℕ} (d : Rec) → index < length rs → slice_index_or kept index [] ≡ record_bytes (get_or rs index d)
-  spelled_at {index} d there = ap (λ (lists : List (List ℕ)). slice_index_or lists index []) s.bytes ∙ get_or-map record_bytes rs index d [] there
+  spelled_at {index} d there = ap (λ lists. slice_index_or lists index []) s.bytes ∙ get_or-map record_bytes rs index d [] there
 
 -- ---- from the last record on
 
@@ -145,7 +145,7 @@ looked_none {offset} = record {
 }
   where
     none_left : (rs : List Rec) → drop (length rs - 0) rs ≡ []
-    none_left rs = ap (λ (n : ℕ). drop n rs) (let e : length rs - 0 ≡ length rs = omega arith in e) ∙ drop-length rs
+    none_left rs = ap (λ n. drop n rs) (let e : length rs - 0 ≡ length rs = omega arith in e) ∙ drop-length rs
 
 module _ {offset : ℕ} {kept : List (List ℕ)} {last : Option ℕ} {back index : ℕ} {found now : Option Place} {later now_later : Bool} {bytes : List ℕ} {bad : Option ℕ} (h : IsLooked offset kept last back found later)
     (few : back < length kept) (index_is : index ≡ length kept - 1 - back) (bytes_are : bytes ≡ slice_index_or kept index [])
@@ -177,31 +177,31 @@ module _ {offset : ℕ} {kept : List (List ℕ)} {last : Option ℕ} {back index
     at = omega (arith, few, index_is, long)
 
     from_here : drop index rs ≡ r ∷ drop (length rs - back) rs
-    from_here = drop-cons rs index d there ∙ ap (λ (n : ℕ). r ∷ drop n rs) (sym after)
+    from_here = drop-cons rs index d there ∙ ap (λ n. r ∷ drop n rs) (sym after)
 
     parts : drop (length rs - (back + 1)) rs ≡ r ∷ drop (length rs - back) rs
-    parts = ap (λ (n : ℕ). drop n rs) at ∙ from_here
+    parts = ap (λ n. drop n rs) at ∙ from_here
 
     whole : rs ≡ take index rs ++ r ∷ drop (length rs - back) rs
-    whole = sym (take-append-drop index rs) ∙ ap (λ (others : List Rec). take index rs ++ others) from_here
+    whole = sym (take-append-drop index rs) ∙ ap (λ others. take index rs ++ others) from_here
 
     more_now : now_later ≡ has_state (drop (length rs - (back + 1)) rs)
     more_now =
-        then_is ∙ ap (λ (b : List ℕ). later || is_state_kind (get_or b 0 0)) spelled ∙ kind_of r later ∙ ap (λ (t : Bool). if is_state r then true else t) (h.more rs s)
+        then_is ∙ ap (λ b. later || is_state_kind (get_or b 0 0)) spelled ∙ kind_of r later ∙ ap (λ t. if is_state r then true else t) (h.more rs s)
         ∙ ap has_state (sym parts)
 
     module _ (service : Declarations) (read : last ≡ bad_at (state_at service (snapshot_of (checkpoint rs)))) where
       bad_here : bad ≡ bad_in service offset r (drop (length rs - back) rs)
       bad_here =
-          bad_is_so ∙ ap (λ (b : List ℕ). bad_behind last (get_or b 0 0) (is_held offset b) (drop 9 b) later) spelled
+          bad_is_so ∙ ap (λ b. bad_behind last (get_or b 0 0) (is_held offset b) (drop 9 b) later) spelled
           ∙ ap (bad_behind last (get_or (record_bytes r) 0 0) (is_held offset (record_bytes r)) (drop 9 (record_bytes r))) (h.more rs s)
           ∙ bad_is service offset r _ spelling (is_last service _ r _ whole read)
 
       bad_now : now ≡ first_bad service offset (suc (length rs - (back + 1))) (drop (length rs - (back + 1)) rs)
       bad_now =
-          now_is ∙ ap (λ (o : Option ℕ). place_or (index + 1) o found) bad_here ∙ ap (place_or (index + 1) (bad_in service offset r (drop (length rs - back) rs))) (h.bad service rs s read)
-          ∙ ap (λ (n : ℕ). place_or n (bad_in service offset r (drop (length rs - back) rs)) (first_bad service offset (suc (length rs - back)) (drop (length rs - back) rs))) (let e : index + 1 ≡ suc (length rs - (back + 1)) = omega (arith, at) in e)
-          ∙ ap (λ (n : ℕ). place_or (suc (length rs - (back + 1))) (bad_in service offset r (drop (length rs - back) rs)) (first_bad service offset (suc n) (drop (length rs - back) rs))) (let e : length rs - back ≡ suc (length rs - (back + 1)) = omega (arith, at, after) in e)
+          now_is ∙ ap (λ o. place_or (index + 1) o found) bad_here ∙ ap (place_or (index + 1) (bad_in service offset r (drop (length rs - back) rs))) (h.bad service rs s read)
+          ∙ ap (λ n. place_or n (bad_in service offset r (drop (length rs - back) rs)) (first_bad service offset (suc (length rs - back)) (drop (length rs - back) rs))) (let e : index + 1 ≡ suc (length rs - (back + 1)) = omega (arith, at) in e)
+          ∙ ap (λ n. place_or (suc (length rs - (back + 1))) (bad_in service offset r (drop (length rs - back) rs)) (first_bad service offset (suc n) (drop (length rs - back) rs))) (let e : length rs - back ≡ suc (length rs - (back + 1)) = omega (arith, at, after) in e)
           ∙ ap (first_bad service offset (suc (length rs - (back + 1)))) (sym parts)
 
   pub looked_more : IsLooked offset kept last (back + 1) now now_later
@@ -222,9 +222,9 @@ ends_more {kept} {index} {before} {after} h lt bytes_are e = record { is = is }
         let d = Promised 0 in
         let there : index < length rs = omega (arith, lt, many s) in
         let r = get_or rs index d in
-        e ∙ ap (λ (b : List ℕ). old_behind before (get_or b 0 0) (drop 9 b)) (bytes_are ∙ spelled_at s d there)
-        ∙ old_is before r ∙ ap (λ (b : Bool). old_in b r) (h.is rs s) ∙ sym (fold_push old_in false (take index rs) r)
-        ∙ ap (λ (others : List Rec). ends_old others) (sym (take_more rs index d there))
+        e ∙ ap (λ b. old_behind before (get_or b 0 0) (drop 9 b)) (bytes_are ∙ spelled_at s d there)
+        ∙ old_is before r ∙ ap (λ b. old_in b r) (h.is rs s) ∙ sym (fold_push old_in false (take index rs) r)
+        ∙ ap (λ others. ends_old others) (sym (take_more rs index d there))
 
 -- ---- the last state
 
@@ -244,9 +244,9 @@ IsGood service rs before saved = ((has_state rs ≡ false) × (before ≡ Some s
 good_more : (service : Declarations) {deltas : ℕ} {snapshot : List ℕ} (rs : List Rec) {saved : Saved} → (if has_state rs then None else bad_at (state_in service snapshot)) ≡ None
     → IsGood service rs (Some (record { deltas = deltas; snapshot = snapshot })) saved → IsOk (state_in service saved.snapshot)
 good_more service {snapshot} rs {saved} none (inl h) =
-    let here : bad_at (state_in service snapshot) ≡ None = ap (λ (t : Bool). if t then None else bad_at (state_in service snapshot)) (sym h.0) ∙ none in
-    let same : snapshot ≡ saved.snapshot = ap (λ (x : Saved). x.snapshot) (same_Some _ saved h.1) in
-    subst (λ (bytes : List ℕ). IsOk (state_in service bytes)) same (good_of _ here)
+    let here : bad_at (state_in service snapshot) ≡ None = ap (λ t. if t then None else bad_at (state_in service snapshot)) (sym h.0) ∙ none in
+    let same : snapshot ≡ saved.snapshot = ap (λ x. x.snapshot) (same_Some _ saved h.1) in
+    subst (λ bytes. IsOk (state_in service bytes)) same (good_of _ here)
 good_more service rs none (inr h) = h
 
 -- where no record is bad, the last snapshot spells a state, unless it stands before them
@@ -275,7 +275,7 @@ saved_good service offset rs {snapshot} good e = by (checkpoint rs) refl e
 
     by : (o : Option Saved) → checkpoint rs ≡ o → snapshot_of o ≡ Some snapshot → IsOk (state_in service snapshot)
     by None f g = absurd (cc)
-    by (Some saved) f g = subst (λ (bytes : List ℕ). IsOk (state_in service bytes)) (same_Some saved.snapshot snapshot g) (or_none saved (last_good service offset rs 1 good f))
+    by (Some saved) f g = subst (λ bytes. IsOk (state_in service bytes)) (same_Some saved.snapshot snapshot g) (or_none saved (last_good service offset rs 1 good f))
 
 -- so the state that was read isn't bad
 pub read_good : (service : Declarations) (offset : ℕ) (rs : List Rec) → first_bad service offset 1 rs ≡ None → bad_at (state_at service (snapshot_of (checkpoint rs))) ≡ None
@@ -293,14 +293,14 @@ read_good service offset rs good = by (snapshot_of (checkpoint rs)) refl
 
 module _ (service : Declarations) {kept : List (List ℕ)} {x : Recovered} (r : IsRead kept x) where
   pub none_bad : {found : Option Place} → found ≡ first_bad service x.offset 1 r.rs → found ≡ None → IsFound service kept x
-  none_bad is none = record { read = r; good = ap (λ (y : Recovered). first_bad service y.offset 1 r.rs) (sym r.is) ∙ sym is ∙ none }
+  none_bad is none = record { read = r; good = ap (λ y. first_bad service y.offset 1 r.rs) (sym r.is) ∙ sym is ∙ none }
 
   -- so it isn't bad where no record is
   pub not_bad : (at : ℕ) → IsFound service kept x → Err at ≡ state_at service x.snapshot → ⊥
   not_bad at f is = some_none (read_last_of f ∙ read_good service _ f.read.rs f.good)
     where
       read_last_of : (f : IsFound service kept x) → bad_at {A = StateValue} (Err at) ≡ bad_at (state_at service (snapshot_of (checkpoint f.read.rs)))
-      read_last_of f = ap bad_at is ∙ ap (λ (y : Recovered). bad_at (state_at service y.snapshot)) f.read.is
+      read_last_of f = ap bad_at is ∙ ap (λ y. bad_at (state_at service y.snapshot)) f.read.is
 
       some_none : bad_at {A = StateValue} (Err at) ≡ None → ⊥
       some_none e = cc

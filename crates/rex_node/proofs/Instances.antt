@@ -25,7 +25,7 @@ above_all : (instance least : ℕ) (ps : List Kept) → instance < least → Are
 above_all instance least [] l h = refl
 above_all instance least (p ∷ ps) l h =
     let first = h.0 in
-    rw (lt-ltb instance p.instance (omega arith)) (ap (λ (qs : List Kept). p ∷ qs) (above_all instance (p.instance + 1) ps (omega arith) h.1))
+    rw (lt-ltb instance p.instance (omega arith)) (ap (λ qs. p ∷ qs) (above_all instance (p.instance + 1) ps (omega arith) h.1))
 
 -- a proposal takes the same place
 pub placed_kept : (least : ℕ) (ps : List Kept) (p : Kept) → AreRising least ps → map proposal_in (with_proposal ps p) ≡ placed (proposal_in p) (map proposal_in ps)
@@ -45,7 +45,7 @@ placed_kept least (q ∷ qs) p h = by (eqb p.instance q.instance) refl (ltb p.in
     by false s true l false m ih =
         let e = ltb-true p.instance q.instance l in
         rw (below_none p.instance (q.instance + 1) qs (omega arith) h.1) (rw (above_all p.instance (q.instance + 1) qs (omega arith) h.1) refl)
-    by false s false l true m ih = ap (λ (rs : List (Proposal Value)). proposal_in q ∷ rs) ih
+    by false s false l true m ih = ap (λ rs. proposal_in q ∷ rs) ih
     by false s false l false m ih =
         absurd (let d = eqb-false p.instance q.instance s in let e = ltb-false p.instance q.instance l in let n = ltb-false q.instance p.instance m in omega (arith, d))
 
@@ -56,7 +56,7 @@ from_kept first (p ∷ ps) = by (leb first p.instance) (from_kept first ps)
   where
     by : (t : Bool) → map proposal_in (from_instance first ps) ≡ from_on first (map proposal_in ps)
         → map proposal_in (cond t (p ∷ from_instance first ps) (from_instance first ps)) ≡ cond t (proposal_in p ∷ from_on first (map proposal_in ps)) (from_on first (map proposal_in ps))
-    by true ih = ap (λ (rs : List (Proposal Value)). proposal_in p ∷ rs) ih
+    by true ih = ap (λ rs. proposal_in p ∷ rs) ih
     by false ih = ih
 
 -- no proposal for a lower instance is there
@@ -97,5 +97,5 @@ placed_from {first} p (q ∷ qs) l = go (eqb p.instance q.instance) refl (ltb p.
     go true s less m false n ih = absurd (let e = eqb-true p.instance q.instance s in let f = leb-false first q.instance n in omega arith)
     go false s true m true n ih = rw (here, n, s, m) refl
     go false s true m false n ih = absurd (let e = ltb-true p.instance q.instance m in let f = leb-false first q.instance n in omega arith)
-    go false s false m true n ih = rw (n, s, m) (ap (λ (rs : List (Proposal Value)). q ∷ rs) ih)
+    go false s false m true n ih = rw (n, s, m) (ap (λ rs. q ∷ rs) ih)
     go false s false m false n ih = rw n ih

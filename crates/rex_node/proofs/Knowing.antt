@@ -71,7 +71,7 @@ module _ {service : Declarations} (good : IsService service) {values : List Valu
   first = cuts_go_first service _ _ _ _ good h.recorder.sound cut.consistent h.recorder.runs
 
   start_settled : state_at service a.recorder a.proposed ≡ first.state
-  start_settled = ap (λ (o : Option StateValue). unwrap_or o a.recorder.start) first.first
+  start_settled = ap (λ o. unwrap_or o a.recorder.start) first.first
 
   first_events : run service a.recorder.start (events_of v) ≡ Some first.state
   first_events = ap (run service a.recorder.start) cut.events ∙ first.first
@@ -86,29 +86,29 @@ module _ {service : Declarations} (good : IsService service) {values : List Valu
 
   pub executes_settled : Executes service (values ++ v ∷ []) (settling service a)
   executes_settled = record {
-    recorder = subst (λ (s : StateValue). IsRecorder service (record a.recorder { start = s; live = beyond a.proposed a.recorder.live })) (sym start_settled) recorder_settled;
-    known = ap (run service (start_of service)) (trace_push values v) ∙ run-then service (start_of service) _ (trace_of values) _ h.known ∙ first_events ∙ ap (λ (s : StateValue). Some s) (sym start_settled);
+    recorder = subst (λ s. IsRecorder service (record a.recorder { start = s; live = beyond a.proposed a.recorder.live })) (sym start_settled) recorder_settled;
+    known = ap (run service (start_of service)) (trace_push values v) ∙ run-then service (start_of service) _ (trace_of values) _ h.known ∙ first_events ∙ ap (λ s. Some s) (sym start_settled);
     requests = h.requests;
     answers =
-        ap (λ (clients : List Entry). noted clients (below a.proposed a.recorder.live)) h.answers
+        ap (λ clients. noted clients (below a.proposed a.recorder.live)) h.answers
         ∙ run_noted service a.recorder.start _ (below a.proposed a.recorder.live) first.first
-        ∙ ap (λ (s : StateValue). s.clients) (sym start_settled);
+        ∙ ap (λ s. s.clients) (sym start_settled);
   }
 
   -- its work and its releases are the model's
   work_settled : (seed : ℕ) → work_known (service_of service seed) true (values ++ v ∷ []) (work_of (Some a)) ≡ work_of (Some (settling service a))
-  work_settled seed = ap (λ (es : List Event). let w : Work = record { queue = a.recorder.queue; live = es; dice = a.dice } in w) cut.others
+  work_settled seed = ap (λ es. let w : Work = record { queue = a.recorder.queue; live = es; dice = a.dice } in w) cut.others
 
   released_settled : (seed : ℕ) → released (service_of service seed) true values v ≡ releases_in (Some a)
   released_settled seed =
-      ap (λ (s : StateValue). map release_effect (releases s.clients (events_of v))) (start_is h)
-      ∙ ap (λ (es : List Event). map release_effect (releases a.recorder.start.clients es)) cut.events
+      ap (λ s. map release_effect (releases s.clients (events_of v))) (start_is h)
+      ∙ ap (λ es. map release_effect (releases a.recorder.start.clients es)) cut.events
 
 -- ---- a node that executes, or doesn't
 
 module _ {service : Declarations} (good : IsService service) (seed : ℕ) (values : List Value) (acceptor : AcceptorValue) (p : ProposerValue) (v : Value) where
   abbrev IsCut : Option ActingValue → Type 0
-  IsCut w = IfSome w (λ (a : ActingValue). IsCutAt service values a v)
+  IsCut w = IfSome w (λ a. IsCutAt service values a v)
 
   can_settle : (w : Option ActingValue) → IsActing service values acceptor (Some p) w → IsCut w → IfSome w (CanSettle service)
   can_settle None h c = tt
@@ -120,7 +120,7 @@ module _ {service : Declarations} (good : IsService service) (seed : ℕ) (value
 
   stamped_known : (w : Option ActingValue) → length values < 65535 → HasStamps values w → IsCut w → HasStamps (values ++ v ∷ []) (option_map (settling service) w)
   stamped_known None few h c = tt
-  stamped_known (Some a) few h c = subst (λ (es : List Event). NumbersReplies (values ++ v ∷ []) (noting a.answers es)) c.events (noted_next h few v)
+  stamped_known (Some a) few h c = subst (λ es. NumbersReplies (values ++ v ∷ []) (noting a.answers es)) c.events (noted_next h few v)
 
   work_is : (w : Option ActingValue) → IsActing service values acceptor (Some p) w → IsCut w → work_known (service_of service seed) (is_some w) (values ++ v ∷ []) (work_of w) ≡ work_of (option_map (settling service) w)
   work_is None h c = refl
@@ -172,7 +172,7 @@ known_all service (Some a) replayed known e f t = e ∙ sym f
 ahead_known : (service : Declarations) (values : List Value) (v : Value) (w : Option ActingValue) (i : ℕ) {replayed : ℕ} (ahead : Option StateValue) (start : StateValue) → replayed ≤ length values
     → (w ≡ None → run service (start_of service) (trace_of (take replayed values)) ≡ Some (ahead_of ahead start))
     → option_map (settling service) w ≡ None → run service (start_of service) (trace_of (take (replayed_to w i replayed) (values ++ v ∷ []))) ≡ Some (ahead_of ahead start)
-ahead_known service values v None i {replayed} ahead start few h e = ap (λ (vs : List Value). run service (start_of service) (trace_of vs)) (take-append-le replayed values (v ∷ []) few) ∙ h refl
+ahead_known service values v None i {replayed} ahead start few h e = ap (λ vs. run service (start_of service) (trace_of vs)) (take-append-le replayed values (v ∷ []) few) ∙ h refl
 ahead_known service values v (Some a) i ahead start few h e = absurd (cc)
 
 -- ---- a node that learns
@@ -189,10 +189,10 @@ module _ {K : Type 0} (records : K → List (List ℕ)) (gives : K → List ℕ 
   place = omega (arith, next)
 
   due : i ≡ length (known (log_of service past (records x.keeper))) + 1
-  due = next ∙ ap (λ (vs : List Value). length vs + 1) u.known
+  due = next ∙ ap (λ vs. length vs + 1) u.known
 
   acting : IsActing service x.known x.acceptor (Some p) x.acting
-  acting = subst (λ (o : Option ProposerValue). IsActing service x.known x.acceptor o x.acting) e u.acting
+  acting = subst (λ o. IsActing service x.known x.acceptor o x.acting) e u.acting
 
   abbrev spelled : HasSpelling (kept.Known i v)
   spelled = record { in_range = (there, short) }
@@ -216,14 +216,14 @@ module _ {K : Type 0} (records : K → List (List ℕ)) (gives : K → List ℕ 
         let replayed : x.replayed ≤ length x.known = b.replayed in
         record {
           based = replayed_from x.acting next based replayed;
-          replayed = subst (λ (n : ℕ). replayed_to x.acting i x.replayed ≤ n) (let n : length x.known + 1 ≡ length (x.known ++ v ∷ []) = omega (arith, length_push x.known v) in n) (replayed_most x.acting next replayed);
+          replayed = subst (λ n. replayed_to x.acting i x.replayed ≤ n) (let n : length x.known + 1 ≡ length (x.known ++ v ∷ []) = omega (arith, length_push x.known v) in n) (replayed_most x.acting next replayed);
           ahead = ahead_known service x.known v x.acting i x.ahead x.start replayed b.ahead;
           caught_up = known_all service x.acting _ _ next (omega (arith, length_push x.known v));
           proposer = proposes_closed (subst (IsProposer x.nodes x.id x.acceptor) e b.proposer);
           acting = acting_known good seed_any x.known x.acceptor p v x.acting acting cut;
           stamped = stamped_known good seed_any x.known x.acceptor p v x.acting (let last = there.last in omega (arith, next, last)) b.stamped cut;
           role = lead_closed x.acceptor p
-              (subst (λ (o : Option ProposerValue). RoleFits (length x.known) (role_of x.acceptor o (is_some x.acting))) e b.role);
+              (subst (λ o. RoleFits (length x.known) (role_of x.acceptor o (is_some x.acting))) e b.role);
         }
       where
         seed_any : ℕ
@@ -239,11 +239,11 @@ module _ {K : Type 0} (records : K → List (List ℕ)) (gives : K → List ℕ 
     z_comes before after {f} effects sends =
         call_is
         (sym log_is)
-        (ap (λ (vs : List Value). work_known (service_of service x.seed) (is_some x.acting) (vs ++ v ∷ []) (work_of x.acting)) (sym u.known) ∙ work_is good x.seed x.known x.acceptor p v x.acting acting cut)
+        (ap (λ vs. work_known (service_of service x.seed) (is_some x.acting) (vs ++ v ∷ []) (work_of x.acting)) (sym u.known) ∙ work_is good x.seed x.known x.acceptor p v x.acting acting cut)
         (replayed_same x.acting i _)
         (sym sends)
-        (ap (λ (es : List Effect). before.effects.items ++ (effect.Known x.id i ∷ es)) (ap (λ (vs : List Value). released (service_of service x.seed) (is_some x.acting) vs v) (sym u.known) ∙ released_are good x.seed x.known x.acceptor p v x.acting acting cut) ∙ sym effects)
-        ∙ ap (λ (t : Bool). record (armed_with f (so_far records service past (z_at keeper) after)) { node = record (armed_with f (so_far records service past (z_at keeper) after)).node { role = leading lead None [] t } }) (sym (active_same service x.acting))
+        (ap (λ es. before.effects.items ++ (effect.Known x.id i ∷ es)) (ap (λ vs. released (service_of service x.seed) (is_some x.acting) vs v) (sym u.known) ∙ released_are good x.seed x.known x.acceptor p v x.acting acting cut) ∙ sym effects)
+        ∙ ap (λ t. record (armed_with f (so_far records service past (z_at keeper) after)) { node = record (armed_with f (so_far records service past (z_at keeper) after)).node { role = leading lead None [] t } }) (sym (active_same service x.acting))
 
   abbrev whole : (CallHere → CallHere) → CallHere → CallHere
   whole k d = decide x.nodes (service_of service x.seed) x.id d lead i v k
@@ -256,8 +256,8 @@ module _ {K : Type 0} (records : K → List (List ℕ)) (gives : K → List ℕ 
       → z ≡ knowing service y i v → after.effects.items ≡ mid.effects.items ++ effect.Known y.id i ∷ releases_in y.acting → map (message_in past) after.sends.items ≡ map (message_in past) mid.sends.items ++ others y.nodes y.id (Chose i v)
       → Learns records gives faults service past i v x z before after On
   learns_on up {y} {z} before mid after h effects sends z_is more_effects more_sends =
-      subst (λ (o : Option ProposerValue). IfSome o (λ (q : ProposerValue). (k : CallHere → CallHere) → Comes records gives faults service past (λ d. decide x.nodes (service_of service x.seed) x.id d (lead_of x.acceptor q (is_some x.acting)) i v k) k x z before after On)) (sym e)
-      (λ k. subst (λ (n : NodeValue K). Comes records gives faults service past (whole k) k x n before after On) (sym all) (
+      subst (λ o. IfSome o (λ q. (k : CallHere → CallHere) → Comes records gives faults service past (λ d. decide x.nodes (service_of service x.seed) x.id d (lead_of x.acceptor q (is_some x.acting)) i v k) k x z before after On)) (sym e)
+      (λ k. subst (λ n. Comes records gives faults service past (whole k) k x n before after On) (sym all) (
         leads_then records gives faults service
             (written_on records gives faults past u spelled due refl y before (rest k) (λ f. refl) h)
             (leads_same records gives faults service (ap length (log_is y.keeper h.records))
@@ -270,25 +270,25 @@ module _ {K : Type 0} (records : K → List (List ℕ)) (gives : K → List ℕ 
       y_is = h.parts
 
       all : z ≡ z_at y.keeper
-      all = z_is ∙ ap (λ (n : NodeValue K). knowing service n i v) y_is ∙ ap (λ (o : Option ProposerValue). record (knowing service (record x { keeper = y.keeper }) i v) { proposer = option_map closed o }) e
+      all = z_is ∙ ap (λ n. knowing service n i v) y_is ∙ ap (λ o. record (knowing service (record x { keeper = y.keeper }) i v) { proposer = option_map closed o }) e
 
       effects_are : after.effects.items ≡ before.effects.items ++ effect.Known x.id i ∷ releases_in x.acting
-      effects_are = more_effects ∙ ap (λ (n : NodeValue K). mid.effects.items ++ effect.Known n.id i ∷ releases_in n.acting) y_is ∙ ap (λ (es : List Effect). es ++ effect.Known x.id i ∷ releases_in x.acting) effects
+      effects_are = more_effects ∙ ap (λ n. mid.effects.items ++ effect.Known n.id i ∷ releases_in n.acting) y_is ∙ ap (λ es. es ++ effect.Known x.id i ∷ releases_in x.acting) effects
 
       sends_are : map (message_in past) after.sends.items ≡ map (message_in past) before.sends.items ++ others x.nodes x.id (Chose i v)
-      sends_are = more_sends ∙ ap (λ (n : NodeValue K). map (message_in past) mid.sends.items ++ others n.nodes n.id (Chose i v)) y_is ∙ ap (λ (ms : List Sent). map (message_in past) ms ++ others x.nodes x.id (Chose i v)) sends
+      sends_are = more_sends ∙ ap (λ n. map (message_in past) mid.sends.items ++ others n.nodes n.id (Chose i v)) y_is ∙ ap (λ ms. map (message_in past) ms ++ others x.nodes x.id (Chose i v)) sends
 
   -- or the node is down
   learns_down : {y : NodeValue K} (before after : Draft) → Falls records faults gives x y (record_bytes (kept.Known i v)) → after.effects.items ≡ before.effects.items ++ effect.Down x.id ∷ [] → after.sends.items ≡ []
       → Learns records gives faults service past i v x y before after Down
   learns_down {y} before after h effects sends =
-      subst (λ (o : Option ProposerValue). IfSome o (λ (q : ProposerValue). (k : CallHere → CallHere) → Comes records gives faults service past (λ d. decide x.nodes (service_of service x.seed) x.id d (lead_of x.acceptor q (is_some x.acting)) i v k) k x y before after Down)) (sym e)
+      subst (λ o. IfSome o (λ q. (k : CallHere → CallHere) → Comes records gives faults service past (λ d. decide x.nodes (service_of service x.seed) x.id d (lead_of x.acceptor q (is_some x.acting)) i v k) k x y before after Down)) (sym e)
       (λ k. written_down records gives faults past u spelled due refl y before (rest k) (λ f. refl) after refl h effects sends k)
 
   -- or memory was short with the known value written down
   learns_broken : {y z : NodeValue K} (before : Draft) → Keeps records faults gives x y (record_bytes (kept.Known i v)) → z.keeper ≡ y.keeper → z.base ≡ y.base → LearnsShort records gives faults service past i v x z before
   learns_broken {y} {z} before h keeper based =
-      inr (subst (λ (o : Option ProposerValue). IfSome o (λ (q : ProposerValue). (k : CallHere → CallHere) → LosesFirst k → BreaksOff records gives faults service past (λ d. decide x.nodes (service_of service x.seed) x.id d (lead_of x.acceptor q (is_some x.acting)) i v k) x z before)) (sym e)
+      inr (subst (λ o. IfSome o (λ q. (k : CallHere → CallHere) → LosesFirst k → BreaksOff records gives faults service past (λ d. decide x.nodes (service_of service x.seed) x.id d (lead_of x.acceptor q (is_some x.acting)) i v k) x z before)) (sym e)
       (λ k loses. broken_written records gives faults past u spelled due refl y before (rest k) (λ f. refl) refl h keeper based
       (λ d. loses (send (learned (service_of service x.seed) x.id lead i v (known log) d) (others x.nodes x.id (Chose i v))))))
 
@@ -300,12 +300,12 @@ module _ {K : Type 0} {records : K → List (List ℕ)} (gives : K → List ℕ 
   pub learn_settles : {y : NodeValue K} → y ≡ record x { keeper = y.keeper } → IfSome y.acting (CanSettle service)
   learn_settles y_is =
       let s = some_of _ leads in
-      subst (λ (n : NodeValue K). IfSome n.acting (CanSettle service)) (sym y_is)
-      (can_settle good x.seed x.known x.acceptor s.0 v x.acting (subst (λ (o : Option ProposerValue). IsActing service x.known x.acceptor o x.acting) s.1 (kept_so.up up).acting) cut)
+      subst (λ n. IfSome n.acting (CanSettle service)) (sym y_is)
+      (can_settle good x.seed x.known x.acceptor s.0 v x.acting (subst (λ o. IsActing service x.known x.acceptor o x.acting) s.1 (kept_so.up up).acting) cut)
 
   module _ {w : Value} (w_is : w ≡ v) (y : NodeValue K) (before mid : Draft) (g : Going) (h : Appends records faults gives x y before mid (record_bytes (kept.Known i w)) g) where
     same_rec : (let r : KeptRec = kept.Known i w in r) ≡ kept.Known i v
-    same_rec = ap (λ (z : Value). kept.Known i z) w_is
+    same_rec = ap (λ z. kept.Known i z) w_is
 
     pub learn_parts : g ≡ On → y ≡ record x { keeper = y.keeper }
     learn_parts e = let k : Appends records faults gives x y before mid (record_bytes (kept.Known i v)) On = appends_as records gives faults x y before mid same_rec e h in k.0.parts

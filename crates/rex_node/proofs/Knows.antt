@@ -14,17 +14,17 @@ use Rattle.rex_node.specs.Parts.{NodeValue, count_of, knows}
 
 -- a node knows as many values as it counts
 pub many_known : {K : Type 0} (past : List Value) (x : NodeValue K) → length (knows past x) ≡ count_of x
-many_known past x = length-append (first x.offset past) x.known ∙ ap (λ (n : ℕ). n + length x.known) (first_length x.offset past)
+many_known past x = length-append (first x.offset past) x.known ∙ ap (λ n. n + length x.known) (first_length x.offset past)
 
 -- past the offset it knows what it holds
 pub drop_known : {K : Type 0} (past : List Value) (x : NodeValue K) {n : ℕ} → x.offset ≤ n → drop n (knows past x) ≡ drop (n - x.offset) x.known
 drop_known past x {n} le =
     let e : n ≡ length (first x.offset past) + (n - x.offset) = let l = first_length x.offset past in omega (arith, le, l) in
-    ap (λ (m : ℕ). drop m (knows past x)) e ∙ drop-append-add (first x.offset past) x.known (n - x.offset)
+    ap (λ m. drop m (knows past x)) e ∙ drop-append-add (first x.offset past) x.known (n - x.offset)
 
 -- those past the offset are those that it holds
 pub held_are : {K : Type 0} (past : List Value) (x : NodeValue K) → drop x.offset (knows past x) ≡ x.known
-held_are past x = drop_known past x {n = x.offset} (omega arith) ∙ ap (λ (n : ℕ). drop n x.known) (let n : x.offset - x.offset ≡ 0 = omega arith in n) ∙ all x.known
+held_are past x = drop_known past x {n = x.offset} (omega arith) ∙ ap (λ n. drop n x.known) (let n : x.offset - x.offset ≡ 0 = omega arith in n) ∙ all x.known
   where
     all : (vs : List Value) → drop 0 vs ≡ vs
     all [] = refl
@@ -34,7 +34,7 @@ held_are past x = drop_known past x {n = x.offset} (omega arith) ∙ ap (λ (n :
 pub value_at : {K : Type 0} (past : List Value) (x : NodeValue K) {place : ℕ} {value : Value} → x.offset ≤ place → slice_get x.known (place + 1 - x.offset - 1) ≡ Some value → get_or (knows past x) place [] ≡ value
 value_at past x {place} {value} le e =
     get_or-append_right (first x.offset past) x.known x.offset place [] (first_length x.offset past) le
-    ∙ ap (λ (n : ℕ). get_or x.known n []) (let n : place - x.offset ≡ place + 1 - x.offset - 1 = omega arith in n)
+    ∙ ap (λ n. get_or x.known n []) (let n : place - x.offset ≡ place + 1 - x.offset - 1 = omega arith in n)
     ∙ get_or_from_slice_get x.known (place + 1 - x.offset - 1) value [] e
 
 -- a window has the value of each instance past its offset that it knows

@@ -42,9 +42,9 @@ module _ {K : Type 0} (records : K → List (List ℕ)) {service : Declarations}
   -- the node is then a follower, as in the model
   pub leaves : here_of records service past (leaving x) ≡ (with_role Follower (begin (here_of records service past x))).node
   leaves =
-      ap (λ (b : ℕ). record h { role = Follower; work = no_work; replayed = replayed_left (is_some x.acting) b x.replayed }) u.base
-      ∙ ap (λ (work : Work). record h { role = Follower; work = work; replayed = replayed_left (is_some x.acting) (base h.log) x.replayed }) (sym (no_work_left x.acting))
-      ∙ ap (λ (t : Bool). record h { role = Follower; work = work_left t (work_of x.acting); replayed = replayed_left t (base h.log) x.replayed }) (sym (role_active service x.known x.acceptor _ x.acting u.acting))
+      ap (λ b. record h { role = Follower; work = no_work; replayed = replayed_left (is_some x.acting) b x.replayed }) u.base
+      ∙ ap (λ work. record h { role = Follower; work = work; replayed = replayed_left (is_some x.acting) (base h.log) x.replayed }) (sym (no_work_left x.acting))
+      ∙ ap (λ t. record h { role = Follower; work = work_left t (work_of x.acting); replayed = replayed_left t (base h.log) x.replayed }) (sym (role_active service x.known x.acceptor _ x.acting u.acting))
     where
       h : Here
       h = here_of records service past x
@@ -60,7 +60,7 @@ module _ {K : Type 0} (records : K → List (List ℕ)) {service : Declarations}
     old_base = u.old_base;
     start = u.start;
     replayed = record {
-      based = subst (λ (b : ℕ). b ≤ replayed_left (is_some x.acting) x.base x.replayed) u.base (replayed_from x.acting based);
+      based = subst (λ b. b ≤ replayed_left (is_some x.acting) x.base x.replayed) u.base (replayed_from x.acting based);
       replayed = replayed_to x.acting based u.replayed.replayed;
     };
     ahead = λ _. state_left (λ n s. run service (start_of service) (trace_of (take n x.known)) ≡ Some s) x.acting x.ahead u.start u.ahead;
@@ -74,7 +74,7 @@ module _ {K : Type 0} (records : K → List (List ℕ)) {service : Declarations}
   }
     where
       based : x.base ≤ x.replayed
-      based = subst (λ (b : ℕ). b ≤ x.replayed) (sym u.base) u.replayed.based
+      based = subst (λ b. b ≤ x.replayed) (sym u.base) u.replayed.based
 
 pub node_left : {K : Type 0} {records : K → List (List ℕ)} {service : Declarations} {past : List Value} {x : NodeValue K} → IsResting records service past x → IsResting records service past (leaving x)
 node_left {records} {service} {past} {x} h = record { id = h.id; few = h.few; up = λ t. up_left records past (h.up t); reached = h.reached; decoded = h.decoded; rests = λ t. tt }

@@ -63,7 +63,7 @@ pub record Chosen {K : Type 0} (x : NodeValue K) (from ballot i : ℕ) (v : Valu
 pub chosen_of : {K : Type 0} {x : NodeValue K} {from ballot i : ℕ} {v : Value} → acceptance_vote_on x.proposer ballot i from ≡ vote.Quorum → option_map (λ (q : Kept). q.value) (proposal_for i x.acceptor.accepted) ≡ Some v → Chosen x from ballot i v
 chosen_of {K} {x} {from} {ballot} {i} {v} vote_is value_is = by x.proposer refl vote_is (proposal_for i x.acceptor.accepted) refl value_is
   where
-    by : (o : Option ProposerValue) → x.proposer ≡ o → acceptance_vote_on o ballot i from ≡ vote.Quorum → (a : Option Kept) → proposal_for i x.acceptor.accepted ≡ a → option_map (λ (q : Kept). q.value) a ≡ Some v → Chosen x from ballot i v
+    by : (o : Option ProposerValue) → x.proposer ≡ o → acceptance_vote_on o ballot i from ≡ vote.Quorum → (a : Option Kept) → proposal_for i x.acceptor.accepted ≡ a → option_map (λ q. q.value) a ≡ Some v → Chosen x from ballot i v
     by None e f a s t = absurd (cc)
     by (Some p) e f None s t = absurd (cc)
     by (Some p) e f (Some q) s t =
@@ -88,7 +88,7 @@ module _ {K : Type 0} {records : K → List (List ℕ)} (gives : K → List ℕ 
   proposes = subst (IsProposer x.nodes x.id x.acceptor) c.p_is u.proposer
 
   lead_fits : LeadFits (length x.known) (lead_of x.acceptor c.p (is_some x.acting))
-  lead_fits = subst (λ (o : Option ProposerValue). RoleFits (length x.known) (role_of x.acceptor o (is_some x.acting))) c.p_is (beside_of records service past x u).role
+  lead_fits = subst (λ o. RoleFits (length x.known) (role_of x.acceptor o (is_some x.acting))) c.p_is (beside_of records service past x u).role
 
   opens_i : c.p.open_instance ≡ Some i
   opens_i = opens records gives faults service past x node up from ballot i there before c.p c.p_is c.none
@@ -109,10 +109,10 @@ module _ {K : Type 0} {records : K → List (List ℕ)} (gives : K → List ℕ 
   choose_there = subst ballots.IsInstance q_instance (fits_instance q_place.1)
 
   pub choose_short : IsValue v
-  choose_short = subst IsValue c.v_is (found_all (λ (q : Kept). IsValue q.value) i _ u.short c.q_is)
+  choose_short = subst IsValue c.v_is (found_all (λ q. IsValue q.value) i _ u.short c.q_is)
 
   pub choose_leads : IsSome x.proposer
-  choose_leads = subst (λ (o : Option ProposerValue). IsSome o) (sym c.p_is) refl
+  choose_leads = subst (λ o. IsSome o) (sym c.p_is) refl
 
   pub choose_kept : IsKept records service past x
   choose_kept = record { id = node.id; few = node.few; up = node.up; reached = node.reached; decoded = node.decoded }
@@ -122,7 +122,7 @@ module _ {K : Type 0} {records : K → List (List ℕ)} (gives : K → List ℕ 
   cut_of (Some a) h = subst (IsCutAt service x.known a) c.v_is (subst (OpenIsCut service x.known a) proposal_is h.open_is_cut)
 
   pub choose_cut : IsOwnCut service x v
-  choose_cut = cut_of x.acting (subst (λ (o : Option ProposerValue). IsActing service x.known x.acceptor o x.acting) c.p_is u.acting)
+  choose_cut = cut_of x.acting (subst (λ o. IsActing service x.known x.acceptor o x.acting) c.p_is u.acting)
 
   -- the model's call decides it
   abbrev sv : Service Value StateValue
@@ -137,20 +137,20 @@ module _ {K : Type 0} {records : K → List (List ℕ)} (gives : K → List ℕ 
       ∙ c.many
 
   vote_at : acceptance_vote c.p ballot i from ≡ vote.Quorum
-  vote_at = ap (λ (r : Option Why). voted r c.p.nodes (length c.p.accepted + 1)) c.none ∙ ap (λ (t : Bool). counting.vote_of (if t then count.Quorum else count.NotYet (length c.p.accepted + 1))) c.many
+  vote_at = ap (λ r. voted r c.p.nodes (length c.p.accepted + 1)) c.none ∙ ap (λ t. counting.vote_of (if t then count.Quorum else count.NotYet (length c.p.accepted + 1))) c.many
 
   turns_are : enough (map proposal_in c.p.reported) ≡ suc (2 * length c.p.reported + 2)
-  turns_are = ap (λ (n : ℕ). 2 * n + 3) (length-map c.p.reported proposal_in) ∙ (let n : 2 * length c.p.reported + 3 ≡ suc (2 * length c.p.reported + 2) = omega arith in n)
+  turns_are = ap (λ n. 2 * n + 3) (length-map c.p.reported proposal_in) ∙ (let n : 2 * length c.p.reported + 3 ≡ suc (2 * length c.p.reported + 2) = omega arith in n)
 
   decides : (d : CallHere) → d.node.role ≡ role_of x.acceptor x.proposer (is_some x.acting) → whole d ≡ decide x.nodes sv x.id d l i v rest
   decides d role =
       whole_is records gives faults service past x node up from ballot i there before c.p_is d role
-      ∙ ap (λ (w : Vote). outcome x.nodes sv x.id from (lead_of x.acceptor c.p (is_some x.acting)) w d) vote_at
-      ∙ ap (λ (t : ℕ). settle t x.nodes sv x.id (led (Leading more) d)) turns_are
-      ∙ ap (λ (o : Option (Proposal Value)). lead_on x.nodes sv x.id (led (Leading more) d) more o rest) proposal_is
-      ∙ ap (λ (t : Bool). cond t (decide x.nodes sv x.id (led (Leading more) d) more c.q.instance c.q.value rest) (led (Leading more) d)) majority
-      ∙ ap (λ (j : ℕ). decide x.nodes sv x.id (led (Leading more) d) more j c.q.value rest) q_instance
-      ∙ ap (λ (w : Value). decide x.nodes sv x.id (led (Leading more) d) more i w rest) c.v_is
+      ∙ ap (λ w. outcome x.nodes sv x.id from (lead_of x.acceptor c.p (is_some x.acting)) w d) vote_at
+      ∙ ap (λ t. settle t x.nodes sv x.id (led (Leading more) d)) turns_are
+      ∙ ap (λ o. lead_on x.nodes sv x.id (led (Leading more) d) more o rest) proposal_is
+      ∙ ap (λ t. cond t (decide x.nodes sv x.id (led (Leading more) d) more c.q.instance c.q.value rest) (led (Leading more) d)) majority
+      ∙ ap (λ j. decide x.nodes sv x.id (led (Leading more) d) more j c.q.value rest) q_instance
+      ∙ ap (λ w. decide x.nodes sv x.id (led (Leading more) d) more i w rest) c.v_is
       ∙ decide_led x.nodes sv x.id d l _ (open_of x.acceptor c.p.open_instance) (c.p.accepted ++ from ∷ []) i v rest
 
   leads_decide : Leads records gives faults service whole (λ d. decide x.nodes sv x.id d l i v rest) x.keeper x.keeper (so_far records service past x before) (so_far records service past x before)
@@ -159,9 +159,9 @@ module _ {K : Type 0} {records : K → List (List ℕ)} (gives : K → List ℕ 
   -- what it knows then runs on
   pub choose_fits : RunsOn service whole (so_far records service past x before) → values_fit service (x.known ++ v ∷ []) ≡ true
   choose_fits runs =
-      subst (λ (vs : List Value). values_fit service (vs ++ v ∷ []) ≡ true) (sym u.known)
+      subst (λ vs. values_fit service (vs ++ v ∷ []) ≡ true) (sym u.known)
       (fits_before good checked (settle_learns x.nodes sv x.id _ d)
-      (subst (λ (e : CallHere). values_fit service (known e.node.log) ≡ true) (decides _ refl) runs))
+      (subst (λ e. values_fit service (known e.node.log) ≡ true) (decides _ refl) runs))
     where
       d : CallHere
       d = send (learned sv x.id l i v (known (so_far records service past x before).node.log) (logged (Known i v) None (so_far records service past x before))) (others x.nodes x.id (Chose i v))
@@ -170,7 +170,7 @@ module _ {K : Type 0} {records : K → List (List ℕ)} (gives : K → List ℕ 
 
   learns_at : (z : NodeValue K) (mid : Draft) (g : Going) → Learns records gives faults service past i v x z before mid g → Comes records gives faults service past (λ d. decide x.nodes sv x.id d l i v rest) rest x z before mid g
   learns_at z mid g learns =
-      subst (λ (o : Option ProposerValue). IfSome o (λ (q : ProposerValue). (k : CallHere → CallHere) → Comes records gives faults service past (λ d. decide x.nodes sv x.id d (lead_of x.acceptor q (is_some x.acting)) i v k) k x z before mid g)) c.p_is learns rest
+      subst (λ o. IfSome o (λ q. (k : CallHere → CallHere) → Comes records gives faults service past (λ d. decide x.nodes sv x.id d (lead_of x.acceptor q (is_some x.acting)) i v k) k x z before mid g)) c.p_is learns rest
 
   -- the append failed
   pub choose_down : {z : NodeValue K} (mid : Draft) → IsSame x z → Learns records gives faults service past i v x z before mid Down → Ends records gives faults service past whole x z before mid Down
@@ -179,8 +179,8 @@ module _ {K : Type 0} {records : K → List (List ℕ)} (gives : K → List ℕ 
       let down : IsDown z = o.1 in (
         (leads_fell records gives faults service leads_decide o.0, o.1),
         record {
-          id = (subst (λ (n : ℕ). 0 < n) (sym same.id) node.id.0, let least = node.id.1 in let a : z.id ≡ x.id = same.id in let b : z.nodes ≡ x.nodes = same.nodes in omega (arith, least));
-          few = subst (λ (n : ℕ). n ≤ most_nodes) (sym same.nodes) node.few;
+          id = (subst (λ n. 0 < n) (sym same.id) node.id.0, let least = node.id.1 in let a : z.id ≡ x.id = same.id in let b : z.nodes ≡ x.nodes = same.nodes in omega (arith, least));
+          few = subst (λ n. n ≤ most_nodes) (sym same.nodes) node.few;
           up = λ t. absurd (false≢true (sym down.down ∙ t));
           reached = bare_reached service z.offset z.known down.bare;
           decoded = subst (HasDecoded service) (sym same.decoded) node.decoded;
@@ -193,7 +193,7 @@ module _ {K : Type 0} {records : K → List (List ℕ)} (gives : K → List ℕ 
   choose_stuck (inl s) = inl s
   choose_stuck {z} (inr b) =
       inr (breaks_later x z before leads_decide
-      (subst (λ (o : Option ProposerValue). IfSome o (λ (q : ProposerValue). (k : CallHere → CallHere) → LosesFirst k → BreaksOff records gives faults service past (λ d. decide x.nodes sv x.id d (lead_of x.acceptor q (is_some x.acting)) i v k) x z before)) c.p_is b
+      (subst (λ o. IfSome o (λ q. (k : CallHere → CallHere) → LosesFirst k → BreaksOff records gives faults service past (λ d. decide x.nodes sv x.id d (lead_of x.acceptor q (is_some x.acting)) i v k) x z before)) c.p_is b
       rest (settle_loses _ x.nodes x.id sv)))
 
   module _ {z : NodeValue K} (mid : Draft) (same : IsSame x z) (learns : Learns records gives faults service past i v x z before mid On) (known_is : z ≡ record (knowing service x i v) { keeper = z.keeper }) (longer : length (records x.keeper) < length (records z.keeper))
@@ -205,10 +205,10 @@ module _ {K : Type 0} {records : K → List (List ℕ)} (gives : K → List ℕ 
     leads_z = leads_then records gives faults service leads_decide comes_z.0
 
     left : turns - 1 ≡ 2 * length c.p.reported + 2
-    left = let e : turns ≡ 2 * length c.p.reported + 3 = turns_is ∙ ap (λ (o : Option ProposerValue). 2 * reports_of o + 3) c.p_is in omega (arith, e)
+    left = let e : turns ≡ 2 * length c.p.reported + 3 = turns_is ∙ ap (λ o. 2 * reports_of o + 3) c.p_is in omega (arith, e)
 
     z_is : z ≡ record x { keeper = z.keeper; known = x.known ++ v ∷ []; replayed = replayed_to x.acting i x.replayed; proposer = Some (closed c.p); acting = option_map (settling service) x.acting }
-    z_is = known_is ∙ ap (λ (o : Option ProposerValue). record (knowing service x i v) { keeper = z.keeper; proposer = option_map closed o }) c.p_is
+    z_is = known_is ∙ ap (λ o. record (knowing service x i v) { keeper = z.keeper; proposer = option_map closed o }) c.p_is
 
     pub chosen_kept : IsKept records service past z
     chosen_kept = comes_z.1
@@ -218,37 +218,37 @@ module _ {K : Type 0} {records : K → List (List ℕ)} (gives : K → List ℕ 
 
     elected : is_candidate c.p ≡ false
     elected =
-        let h : HasGoneOn (Some c.p) (is_some x.acting) = subst (λ (o : Option ProposerValue). HasGoneOn o (is_some x.acting)) c.p_is (node.rests up) in
-        h ∙ ap (λ (o : Option ℕ). not (is_some x.acting || is_some o)) opens_i ∙ go (is_some x.acting)
+        let h : HasGoneOn (Some c.p) (is_some x.acting) = subst (λ o. HasGoneOn o (is_some x.acting)) c.p_is (node.rests up) in
+        h ∙ ap (λ o. not (is_some x.acting || is_some o)) opens_i ∙ go (is_some x.acting)
       where
         go : (t : Bool) → not (t || true) ≡ false
         go true = refl
         go false = refl
 
     pub chosen_free : IsFree z.proposer (is_some z.acting)
-    chosen_free = subst (λ (n : NodeValue K). IsFree n.proposer (is_some n.acting)) (sym z_is) (refl, λ t. elected)
+    chosen_free = subst (λ n. IsFree n.proposer (is_some n.acting)) (sym z_is) (refl, λ t. elected)
 
     pub chosen_may : MayGoOn z (turns - 1)
     chosen_may =
-        subst (λ (n : NodeValue K). MayGoOn n (turns - 1)) (sym z_is)
+        subst (λ n. MayGoOn n (turns - 1)) (sym z_is)
         (let few : above (length (x.known ++ v ∷ [])) c.p.reported ≤ length c.p.reported = above_most _ _ in omega (arith, few, left))
 
     rest_of : settle (turns - 1) z.nodes (service_of service z.seed) z.id ≡ rest
-    rest_of = settles_as records gives faults service past _ same ∙ ap (λ (t : ℕ). settle t x.nodes sv x.id) left
+    rest_of = settles_as records gives faults service past _ same ∙ ap (λ t. settle t x.nodes sv x.id) left
 
     pub chosen_runs : RunsOn service whole (so_far records service past x before) → RunsOn service (settle (turns - 1) z.nodes (service_of service z.seed) z.id) (so_far records service past z mid)
-    chosen_runs runs = subst (λ (k : CallHere → CallHere). RunsOn service k (so_far records service past z mid)) (sym rest_of) (rest_runs past x z before mid leads_z runs)
+    chosen_runs runs = subst (λ k. RunsOn service k (so_far records service past z mid)) (sym rest_of) (rest_runs past x z before mid leads_z runs)
 
     pub chosen_count : faults x.keeper < 2 ^ 64 - 1 → faults z.keeper < 2 ^ 64 - 1
-    chosen_count h = subst (λ (n : ℕ). n < 2 ^ 64 - 1) (sym leads_z.counted) h
+    chosen_count h = subst (λ n. n < 2 ^ 64 - 1) (sym leads_z.counted) h
 
     -- as going on ends, so does the call
     pub chosen_ends : (y : NodeValue K) (after : Draft) (result : Result Going AllocError) → IfOk result (Ends records gives faults service past (settle (turns - 1) z.nodes (service_of service z.seed) z.id) z y mid after) → IfOk result (Ends records gives faults service past whole x y before after)
-    chosen_ends y after (Ok going) h = ends_then x z before mid after going same.id leads_z (subst (λ (k : CallHere → CallHere). Ends records gives faults service past k z y mid after going) rest_of h)
+    chosen_ends y after (Ok going) h = ends_then x z before mid after going same.id leads_z (subst (λ k. Ends records gives faults service past k z y mid after going) rest_of h)
     chosen_ends y after (Err e) h = tt
 
     pub chosen_stuck : (y : NodeValue K) (result : Result Going AllocError) → OnErr result (IsStuck records gives faults service past (settle (turns - 1) z.nodes (service_of service z.seed) z.id) z y mid) → OnErr result (IsStuck records gives faults service past whole x y before)
     chosen_stuck y (Ok going) h = tt
     chosen_stuck y (Err e) h =
         inr (breaks_after z y mid leads_z longer (chosen_kept.up chosen_up).base (settle_loses _ x.nodes x.id sv)
-        (subst (λ (k : CallHere → CallHere). IsStuck records gives faults service past k z y mid) rest_of h))
+        (subst (λ k. IsStuck records gives faults service past k z y mid) rest_of h))

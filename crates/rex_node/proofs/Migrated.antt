@@ -41,7 +41,7 @@ module _ {K : Type 0} {records : K → List (List ℕ)} (gives : K → List ℕ 
   follows : Follows rs r
   follows = record {
     spelling = spelling records gives faults service past x node due r is;
-    due = subst (λ (s : Standing). IsDue s r) (sym (stands_behind service past spelled)) (is_due records gives faults service past x node due r is);
+    due = subst (λ s. IsDue s r) (sym (stands_behind service past spelled)) (is_due records gives faults service past x node due r is);
   }
 
   -- the base is that of the records
@@ -51,13 +51,13 @@ module _ {K : Type 0} {records : K → List (List ℕ)} (gives : K → List ℕ 
   said : recovered (rs ++ r ∷ []) ≡ after (recovered rs) (kept.Checkpoint (recovered rs).base is.snapshot)
   said =
       one_more rs r (counts_all rs spelled.records) follows ∙ ap (after (recovered rs)) is.is
-      ∙ ap (λ (n : ℕ). after (recovered rs) (kept.Checkpoint n is.snapshot)) based
+      ∙ ap (λ n. after (recovered rs) (kept.Checkpoint n is.snapshot)) based
 
   -- the last checkpoint is kept again
   pub spells_again : {lists : List (List ℕ)} → lists ≡ records x.keeper ++ record_bytes r ∷ [] → SpellsTheSame service x.start rs lists
   spells_again e = record {
     again = rs ++ r ∷ [];
-    spelled = subst (λ (bs : List (List ℕ)). Spell bs (rs ++ r ∷ [])) (sym e) (spell_more _ rs r spelled follows);
+    spelled = subst (λ bs. Spell bs (rs ++ r ∷ [])) (sym e) (spell_more _ rs r spelled follows);
     same = subst (SaysTheSame service x.start (recovered rs)) (sym said) (says_again is.spells);
   }
 

@@ -55,7 +55,7 @@ from_on_both {i} {j} (p ∷ ps) le = go (leb i p.instance) refl (leb j p.instanc
   where
     go : (early : Bool) → leb i p.instance ≡ early → (late : Bool) → leb j p.instance ≡ late → from_on j (from_on i ps) ≡ from_on j ps
         → from_on j (cond early (p ∷ from_on i ps) (from_on i ps)) ≡ cond late (p ∷ from_on j ps) (from_on j ps)
-    go true e true l ih = rw l (ap (λ (qs : List (Proposal Value)). p ∷ qs) ih)
+    go true e true l ih = rw l (ap (λ qs. p ∷ qs) ih)
     go true e false l ih = rw l ih
     go false e true l ih = absurd (let a = leb-false i p.instance e in let b = leb-true j p.instance l in omega arith)
     go false e false l ih = ih
@@ -95,10 +95,10 @@ module _ {K : Type 0} {records : K → List (List ℕ)} (gives : K → List ℕ 
   spelling = record { in_range = (there, short) }
 
   due : IsDue (standing_in (log_of service past (records x.keeper))) r
-  due = subst (λ (vs : List Value). length vs < k) u.known more
+  due = subst (λ vs. length vs < k) u.known more
 
   stated : is_stated service (record_bytes r) ≡ true
-  stated = ap (λ (q : Result StateValue ℕ). is_ok q) spelled
+  stated = ap (λ q. is_ok q) spelled
 
   abbrev call : CallHere → CallHere
   call = on_snapshot (service_of service x.seed) x.id (first k past)
@@ -108,10 +108,10 @@ module _ {K : Type 0} {records : K → List (List ℕ)} (gives : K → List ℕ 
 
   call_is : (f : Option Failure) → call (armed_with f (so_far records service past x before)) ≡ append f x.id (rec_of service past r) (armed_with f (so_far records service past x before)) rest
   call_is f =
-      ap (λ (t : Bool). cond t (say (effect.IgnoredInstance (length (first k past)) (suc (length (known log)))) d) (append f x.id (Transferred (first k past) ((service_of service x.seed).state (first k past))) d rest))
-      (lt-leb (length (first k past)) (length (known log)) (omega (arith, long, more, ap (λ (vs : List Value). length vs) u.known)))
-      ∙ ap (λ (t : StateValue). append f x.id (Transferred (first k past) t) d rest)
-      (state_is service _ s leads ∙ sym (ap (λ (q : Result StateValue ℕ). read_state service q) spelled))
+      ap (λ t. cond t (say (effect.IgnoredInstance (length (first k past)) (suc (length (known log)))) d) (append f x.id (Transferred (first k past) ((service_of service x.seed).state (first k past))) d rest))
+      (lt-leb (length (first k past)) (length (known log)) (omega (arith, long, more, ap (λ vs. length vs) u.known)))
+      ∙ ap (λ t. append f x.id (Transferred (first k past) t) d rest)
+      (state_is service _ s leads ∙ sym (ap (λ q. read_state service q) spelled))
     where
       d : CallHere
       d = armed_with f (so_far records service past x before)
@@ -127,10 +127,10 @@ module _ {K : Type 0} {records : K → List (List ℕ)} (gives : K → List ℕ 
     fell_at b j = record (fallen x) { keeper = j; base = if b then k else x.base; replayed = if b then k else x.base }
 
     z_at : z ≡ fell_at h.0.kept y.keeper
-    z_at = z_is ∙ ap (λ (b : Bool). fallen_moved b y k) (kept_is h.0.kept h.0.records) ∙ ap (λ (n : NodeValue K). fallen_moved h.0.kept n k) h.0.parts
+    z_at = z_is ∙ ap (λ b. fallen_moved b y k) (kept_is h.0.kept h.0.records) ∙ ap (λ n. fallen_moved h.0.kept n k) h.0.parts
 
     z_keeper : z.keeper ≡ y.keeper
-    z_keeper = ap (λ (n : NodeValue K). n.keeper) z_at
+    z_keeper = ap (λ n. n.keeper) z_at
 
     log_in : (b : Bool) → records y.keeper ≡ failed_records b (records x.keeper) (record_bytes r) → log_of service past (records y.keeper) ≡ (if b then said ∷ log else log)
     log_in true e = ap (log_of service past) e ∙ log_then service past (records x.keeper) r spelling due
@@ -142,18 +142,18 @@ module _ {K : Type 0} {records : K → List (List ℕ)} (gives : K → List ℕ 
 
     down_at : so_far records service past z mid ≡ record { node = down_node (if h.0.kept then said ∷ log else log) None; sends = []; effects = before.effects.items ++ effect.Down x.id ∷ [] }
     down_at =
-        ap (λ (n : NodeValue K). call_at (here_of records service past n) (map (message_in past) mid.sends.items) mid.effects.items) z_at
-        ∙ ap (λ (l : List (Rec Value StateValue)). call_at (record (here_of records service past (fell_at h.0.kept y.keeper)) { log = l }) (map (message_in past) mid.sends.items) mid.effects.items) (log_in h.0.kept h.0.records)
-        ∙ ap (λ (b : ℕ). call_at (record (here_of records service past (fell_at h.0.kept y.keeper)) { log = if h.0.kept then said ∷ log else log; replayed = b }) (map (message_in past) mid.sends.items) mid.effects.items) (base_in h.0.kept)
-        ∙ ap (λ (ms : List _). call_at (down_node (if h.0.kept then said ∷ log else log) None) (map (message_in past) ms) mid.effects.items) h.2
+        ap (λ n. call_at (here_of records service past n) (map (message_in past) mid.sends.items) mid.effects.items) z_at
+        ∙ ap (λ l. call_at (record (here_of records service past (fell_at h.0.kept y.keeper)) { log = l }) (map (message_in past) mid.sends.items) mid.effects.items) (log_in h.0.kept h.0.records)
+        ∙ ap (λ b. call_at (record (here_of records service past (fell_at h.0.kept y.keeper)) { log = if h.0.kept then said ∷ log else log; replayed = b }) (map (message_in past) mid.sends.items) mid.effects.items) (base_in h.0.kept)
+        ∙ ap (λ ms. call_at (down_node (if h.0.kept then said ∷ log else log) None) (map (message_in past) ms) mid.effects.items) h.2
         ∙ ap (call_at (down_node (if h.0.kept then said ∷ log else log) None) []) h.1
 
     pub moved_down : (Fell records gives faults service call x.id x.keeper z.keeper (so_far records service past x before) (so_far records service past z mid) × IsDown z) × IsResting records service past z
     moved_down = (
       (
-        subst (λ (j : K). Fell records gives faults service call x.id x.keeper j (so_far records service past x before) (so_far records service past z mid)) (sym z_keeper)
+        subst (λ j. Fell records gives faults service call x.id x.keeper j (so_far records service past x before) (so_far records service past z mid)) (sym z_keeper)
             (fell_append records gives faults service call_is x.keeper y.keeper stated h.0.kept h.0.answer h.0.records h.0.faults down_at),
-        record { down = ap (λ (n : NodeValue K). n.up) z_at; bare = ap (λ (n : NodeValue K). n.reached) z_at },
+        record { down = ap (λ n. n.up) z_at; bare = ap (λ n. n.reached) z_at },
       ),
       subst (IsResting records service past) (sym z_at) (record { id = node.id; few = node.few; up = λ t. absurd (false≢true t); reached = tt; decoded = node.decoded; rests = λ t. absurd (false≢true t) }),
     )
@@ -166,7 +166,7 @@ module _ {K : Type 0} {records : K → List (List ℕ)} (gives : K → List ℕ 
     moved_stuck {z} keeper based =
         inr (breaks_here y z mid (appended_leads records gives faults service past x y before mid spelling due stated call_is h)
         (omega (arith, ap length h.0.records, length_push (records x.keeper) (record_bytes r)))
-        (based ∙ sym long ∙ ap base (sym (ap (λ (j : K). log_of service past (records j)) keeper ∙ appended_log records gives faults service past x y before mid spelling due stated h)))
+        (based ∙ sym long ∙ ap base (sym (ap (λ j. log_of service past (records j)) keeper ∙ appended_log records gives faults service past x y before mid spelling due stated h)))
         (λ d. refl) (ap records keeper) (ap faults keeper) (inl keeper))
 
     -- the node is a follower at the state
@@ -186,10 +186,10 @@ module _ {K : Type 0} {records : K → List (List ℕ)} (gives : K → List ℕ 
       followed_at : z ≡ follower y.keeper
       followed_at =
           z_is
-          ∙ ap (λ (n : NodeValue K). leaving (record n { offset = k; known = first k past ++ []; acceptor = forgetting n.acceptor k; base = k; start = s; replayed = k; ahead = None; reached = None })) h.0.parts
-          ∙ ap (λ (vs : List Value). record (follower y.keeper) { known = vs; replayed = replayed_left (is_some x.acting) k k; ahead = ahead_left (is_some x.acting) None }) (append-nil (first k past))
-          ∙ ap (λ (m : ℕ). record (follower y.keeper) { replayed = m; ahead = ahead_left (is_some x.acting) None }) (left_same _)
-          ∙ ap (λ (o : Option StateValue). record (follower y.keeper) { ahead = o }) (none_left _)
+          ∙ ap (λ n. leaving (record n { offset = k; known = first k past ++ []; acceptor = forgetting n.acceptor k; base = k; start = s; replayed = k; ahead = None; reached = None })) h.0.parts
+          ∙ ap (λ vs. record (follower y.keeper) { known = vs; replayed = replayed_left (is_some x.acting) k k; ahead = ahead_left (is_some x.acting) None }) (append-nil (first k past))
+          ∙ ap (λ m. record (follower y.keeper) { replayed = m; ahead = ahead_left (is_some x.acting) None }) (left_same _)
+          ∙ ap (λ o. record (follower y.keeper) { ahead = o }) (none_left _)
 
       log_is : log_of service past (records y.keeper) ≡ said ∷ log
       log_is = appended_log records gives faults service past x y before mid spelling due stated h
@@ -197,11 +197,11 @@ module _ {K : Type 0} {records : K → List (List ℕ)} (gives : K → List ℕ 
       -- the model's call comes to the same
       here_is : {ms : List (Message Value)} (es : List Effect) → call_at (here_of records service past (follower y.keeper)) ms (es ++ (effect.Transferred x.id k ∷ followed x.id (role_of x.acceptor x.proposer (is_some x.acting)))) ≡ rest (logged (rec_of service past r) None (call_at (here_of records service past x) ms es))
       here_is {ms} es =
-          ap (λ (l : List (Rec Value StateValue)). at l no_work k (effect.Transferred x.id k)) log_is
-          ∙ ap (λ (w : Work). at (said ∷ log) w k (effect.Transferred x.id k)) (sym (no_work_left x.acting))
-          ∙ ap (λ (t : Bool). at (said ∷ log) (work_left t (work_of x.acting)) k (effect.Transferred x.id k)) (sym (role_active service x.known x.acceptor _ x.acting u.acting))
-          ∙ ap (λ (m : ℕ). at (said ∷ log) (work_left active (work_of x.acting)) m (effect.Transferred x.id m)) (sym long)
-          ∙ ap (λ (m : ℕ). at (said ∷ log) (work_left active (work_of x.acting)) m (effect.Transferred x.id (length (first k past)))) (sym (left_long active))
+          ap (λ l. at l no_work k (effect.Transferred x.id k)) log_is
+          ∙ ap (λ w. at (said ∷ log) w k (effect.Transferred x.id k)) (sym (no_work_left x.acting))
+          ∙ ap (λ t. at (said ∷ log) (work_left t (work_of x.acting)) k (effect.Transferred x.id k)) (sym (role_active service x.known x.acceptor _ x.acting u.acting))
+          ∙ ap (λ m. at (said ∷ log) (work_left active (work_of x.acting)) m (effect.Transferred x.id m)) (sym long)
+          ∙ ap (λ m. at (said ∷ log) (work_left active (work_of x.acting)) m (effect.Transferred x.id (length (first k past)))) (sym (left_long active))
         where
           active : Bool
           active = is_active (here_of records service past x).role
@@ -216,10 +216,10 @@ module _ {K : Type 0} {records : K → List (List ℕ)} (gives : K → List ℕ 
       comes : so_far records service past z after ≡ rest (logged (rec_of service past r) None (so_far records service past x before))
       comes =
           far records service past z after
-          (told.effects_are ∙ ap (λ (es : List Effect). es ++ (effect.Transferred y.id k ∷ followed y.id (role_of y.acceptor y.proposer (is_some y.acting)))) h.1
-          ∙ ap (λ (n : NodeValue K). before.effects.items ++ (effect.Transferred n.id k ∷ followed n.id (role_of n.acceptor n.proposer (is_some n.acting)))) h.0.parts)
+          (told.effects_are ∙ ap (λ es. es ++ (effect.Transferred y.id k ∷ followed y.id (role_of y.acceptor y.proposer (is_some y.acting)))) h.1
+          ∙ ap (λ n. before.effects.items ++ (effect.Transferred n.id k ∷ followed n.id (role_of n.acceptor n.proposer (is_some n.acting)))) h.0.parts)
           (ap (map (message_in past)) (told.sends_are ∙ h.2))
-          ∙ ap (λ (n : NodeValue K). call_at (here_of records service past n) (map (message_in past) before.sends.items) (before.effects.items ++ (effect.Transferred x.id k ∷ followed x.id (role_of x.acceptor x.proposer (is_some x.acting))))) followed_at
+          ∙ ap (λ n. call_at (here_of records service past n) (map (message_in past) before.sends.items) (before.effects.items ++ (effect.Transferred x.id k ∷ followed x.id (role_of x.acceptor x.proposer (is_some x.acting))))) followed_at
           ∙ here_is _
 
       -- it is kept
@@ -229,15 +229,15 @@ module _ {K : Type 0} {records : K → List (List ℕ)} (gives : K → List ℕ 
           record {
             promised = l.promised;
             accepted = accepted_above _ _ (omega (arith, l.offset_is, l.low, l.few, more)) l.accepted
-                ∙ ap (λ (n : ℕ). from_on (suc n) (last_accepted log)) (sym long);
+                ∙ ap (λ n. from_on (suc n) (last_accepted log)) (sym long);
             offset_is = sym long;
             low = le_refl k;
             known = refl;
             base = sym long;
             old_base = l.old_base;
             few = omega (arith, long);
-            start = ap (λ (vs : List Value). run service (start_of service) (trace_of vs)) (take_all k (first k past) (omega (arith, long))) ∙ leads;
-            short = All-filter _ (λ (q : Kept). IsValue q.value) x.acceptor.accepted l.short;
+            start = ap (λ vs. run service (start_of service) (trace_of vs)) (take_all k (first k past) (omega (arith, long))) ∙ leads;
+            short = All-filter _ (λ q. IsValue q.value) x.acceptor.accepted l.short;
             fits = fits;
             numbers = record { ballots = l.numbers.ballots; instances = l.numbers.instances; few = omega (arith, long, there.last) };
           }
@@ -269,43 +269,43 @@ module _ {K : Type 0} {records : K → List (List ℕ)} (gives : K → List ℕ 
               leads_then records gives faults service
                   (appended_leads records gives faults service past x y before mid spelling due stated call_is h) last,
               within resting,
-              ap (λ (n : NodeValue K). n.up) followed_at ∙ up,
+              ap (λ n. n.up) followed_at ∙ up,
             ),
             resting,
           )
         where
           keeper : z.keeper ≡ y.keeper
-          keeper = ap (λ (n : NodeValue K). n.keeper) followed_at
+          keeper = ap (λ n. n.keeper) followed_at
 
           last : Leads records gives faults service rest (λ d. d) y.keeper z.keeper (so_far records service past y mid) (so_far records service past z after)
           last =
-              subst (λ (j : K). Leads records gives faults service rest (λ d. d) y.keeper j (so_far records service past y mid) (so_far records service past z after)) (sym keeper)
-              (leads_same records gives faults service (ap (λ (j : K). length (log_of service past (records j))) keeper)
-              (λ f. ap (λ (d : CallHere). rest (armed_with f d)) (appended_here records gives faults service past x y before mid spelling due stated h) ∙ ap (armed_with f) (sym comes)))
+              subst (λ j. Leads records gives faults service rest (λ d. d) y.keeper j (so_far records service past y mid) (so_far records service past z after)) (sym keeper)
+              (leads_same records gives faults service (ap (λ j. length (log_of service past (records j))) keeper)
+              (λ f. ap (λ d. rest (armed_with f d)) (appended_here records gives faults service past x y before mid spelling due stated h) ∙ ap (armed_with f) (sym comes)))
 
 -- ---- a state that is told
 
 module _ {K : Type 0} {records : K → List (List ℕ)} (gives : K → List ℕ → Answer → K → Type 0) (faults : K → ℕ) {service : Declarations} {past : List Value} {x : NodeValue K} (node : IsResting records service past x) (up : x.up ≡ true) (before : Draft) (k : ℕ) where
   -- the values before one that is taken over fit
   pub told_fits : length x.known < k → RunsOn service (on_snapshot (service_of service x.seed) x.id (first k past)) (so_far records service past x before) → values_fit service (first k past) ≡ true
-  told_fits more runs = subst (λ (d : CallHere). values_fit service (known d.node.log) ≡ true) taken runs
+  told_fits more runs = subst (λ d. values_fit service (known d.node.log) ≡ true) taken runs
     where
       rests : CallHere → CallHere
       rests e = follow x.id (effect.Transferred x.id (length (first k past)) ∷ []) (with_replayed (length (first k past)) e)
 
       taken : on_snapshot (service_of service x.seed) x.id (first k past) (so_far records service past x before) ≡ append None x.id (Transferred (first k past) ((service_of service x.seed).state (first k past))) (so_far records service past x before) rests
       taken =
-          ap (λ (t : Bool). cond t (say (effect.IgnoredInstance (length (first k past)) (suc (length (known (here_of records service past x).log)))) (so_far records service past x before)) (append None x.id (Transferred (first k past) ((service_of service x.seed).state (first k past))) (so_far records service past x before) rests))
-          (lt-leb (length (first k past)) (length (known (here_of records service past x).log)) (omega (arith, first_length k past, more, ap (λ (vs : List Value). length vs) (node.up up).known)))
+          ap (λ t. cond t (say (effect.IgnoredInstance (length (first k past)) (suc (length (known (here_of records service past x).log)))) (so_far records service past x before)) (append None x.id (Transferred (first k past) ((service_of service x.seed).state (first k past))) (so_far records service past x before) rests))
+          (lt-leb (length (first k past)) (length (known (here_of records service past x).log)) (omega (arith, first_length k past, more, ap (λ vs. length vs) (node.up up).known)))
 
   -- one after no more values than are known is ignored
   pub snapshot_ignored : (after : Draft) {next : ℕ} → k ≤ length x.known → next ≡ length x.known + 1 → after.effects.items ≡ before.effects.items ++ effect.IgnoredInstance k next ∷ [] → after.sends.items ≡ before.sends.items
       → EndsWell records gives faults service past x x before after (on_snapshot (service_of service x.seed) x.id (first k past))
   snapshot_ignored after {next} few next_is effects sends =
       ends_same records gives faults service past x x before after refl node up
-      (λ f. ap (λ (t : Bool). cond t (says f (length (first k past)) (suc (length (known (here_of records service past x).log)))) (takes f)) (le-leb (length (first k past)) (length (known (here_of records service past x).log)) (omega (arith, first_length k past, few, ap (λ (vs : List Value). length vs) (node.up up).known)))
-      ∙ ap (λ (n : ℕ). says f n (suc (length (known (here_of records service past x).log)))) (first_length k past)
-      ∙ ap (λ (n : ℕ). says f k n) (sym here)
+      (λ f. ap (λ t. cond t (says f (length (first k past)) (suc (length (known (here_of records service past x).log)))) (takes f)) (le-leb (length (first k past)) (length (known (here_of records service past x).log)) (omega (arith, first_length k past, few, ap (λ vs. length vs) (node.up up).known)))
+      ∙ ap (λ n. says f n (suc (length (known (here_of records service past x).log)))) (first_length k past)
+      ∙ ap (λ n. says f k n) (sym here)
       ∙ ap (armed_with f) (sym (far records service past x after effects (ap (map (message_in past)) sends))))
     where
       says : Option Failure → ℕ → ℕ → CallHere
@@ -315,4 +315,4 @@ module _ {K : Type 0} {records : K → List (List ℕ)} (gives : K → List ℕ 
       takes f = append f x.id (Transferred (first k past) ((service_of service x.seed).state (first k past))) (armed_with f (so_far records service past x before)) (λ e. follow x.id (effect.Transferred x.id (length (first k past)) ∷ []) (with_replayed (length (first k past)) e))
 
       here : next ≡ suc (length (known (here_of records service past x).log))
-      here = let n : next ≡ suc (length x.known) = omega (arith, next_is) in n ∙ ap (λ (vs : List Value). suc (length vs)) (node.up up).known
+      here = let n : next ≡ suc (length x.known) = omega (arith, next_is) in n ∙ ap (λ vs. suc (length vs)) (node.up up).known

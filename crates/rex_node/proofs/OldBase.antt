@@ -32,7 +32,7 @@ promised_some : (l : Left) {x : KeptRec × Left} → promised_at l ≡ Ok x → 
 unfolding promised_at
 promised_some l {x} e =
     let b = bind_ok (allowed_at w64 is_ballot l) (λ n. Ok (rec.Promised n.0, n.1)) x e in
-    subst (λ (y : KeptRec × Left). IsSome y.0) (ok_is (rec.Promised b.0.0, b.0.1) x b.2) tt
+    subst (λ y. IsSome y.0) (ok_is (rec.Promised b.0.0, b.0.1) x b.2) tt
 
 accepted_some : (l : Left) {x : KeptRec × Left} → accepted_at l ≡ Ok x → IsSome x.0
 unfolding accepted_at
@@ -40,14 +40,14 @@ accepted_some l {x} e =
     let b = bind_ok (allowed_at w64 is_ballot l) (λ n. allowed_at w32 is_instance n.1 >>= λ i. value_at i.1 >>= λ v. Ok (rec.Accepted n.0 i.0 v.0, v.1)) x e in
     let i = bind_ok (allowed_at w32 is_instance b.0.1) (λ i. value_at i.1 >>= λ v. Ok (rec.Accepted b.0.0 i.0 v.0, v.1)) x b.2 in
     let v = bind_ok (value_at i.0.1) (λ v. Ok (rec.Accepted b.0.0 i.0.0 v.0, v.1)) x i.2 in
-    subst (λ (y : KeptRec × Left). IsSome y.0) (ok_is (rec.Accepted b.0.0 i.0.0 v.0.0, v.0.1) x v.2) tt
+    subst (λ y. IsSome y.0) (ok_is (rec.Accepted b.0.0 i.0.0 v.0.0, v.0.1) x v.2) tt
 
 known_some : (s : Standing) (l : Left) {x : KeptRec × Left} → known_at s l ≡ Ok x → IsSome x.0
 unfolding known_at
 known_some s l {x} e =
     let i = bind_ok (allowed_at w32 _ l) (λ i. value_at i.1 >>= λ v. Ok (rec.Known i.0 v.0, v.1)) x e in
     let v = bind_ok (value_at i.0.1) (λ v. Ok (rec.Known i.0.0 v.0, v.1)) x i.2 in
-    subst (λ (y : KeptRec × Left). IsSome y.0) (ok_is (rec.Known i.0.0 v.0.0, v.0.1) x v.2) tt
+    subst (λ y. IsSome y.0) (ok_is (rec.Known i.0.0 v.0.0, v.0.1) x v.2) tt
 
 checkpoint_some : (s : Standing) (l : Left) {x : KeptRec × Left} → checkpoint_at s l ≡ Ok x → IsSome x.0
 unfolding checkpoint_at
@@ -55,13 +55,13 @@ checkpoint_some s l {x} e =
     let k = bind_ok (allowed_at w32 (is_between (max 1 s.offset) s.count) l) (λ k. value_at k.1 >>= λ v. Ok (rec.Checkpoint k.0 v.0, v.1)) x e in
     let v = bind_ok (value_at k.0.1) (λ v. Ok (rec.Checkpoint k.0.0 v.0, v.1)) x k.2 in
     let range = is_between-true (max 1 s.offset) s.count k.0.0 (allowed_is w32 (is_between (max 1 s.offset) s.count) l k.0 k.1) in
-    subst (λ (y : KeptRec × Left). IsSome y.0) (ok_is (rec.Checkpoint k.0.0 v.0.0, v.0.1) x v.2) (omega (arith, range.0, le-max_left 1 s.offset))
+    subst (λ y. IsSome y.0) (ok_is (rec.Checkpoint k.0.0 v.0.0, v.0.1) x v.2) (omega (arith, range.0, le-max_left 1 s.offset))
 
 dropped_some : (s : Standing) (l : Left) {x : KeptRec × Left} → dropped_at s l ≡ Ok x → IsSome x.0
 unfolding dropped_at
 dropped_some s l {x} e =
     let k = bind_ok (allowed_at w32 _ l) (λ k. Ok (rec.Dropped k.0, k.1)) x e in
-    subst (λ (y : KeptRec × Left). IsSome y.0) (ok_is (rec.Dropped k.0.0, k.0.1) x k.2) tt
+    subst (λ y. IsSome y.0) (ok_is (rec.Dropped k.0.0, k.0.1) x k.2) tt
 
 transferred_some : (s : Standing) (l : Left) {x : KeptRec × Left} → transferred_at s l ≡ Ok x → IsSome x.0
 unfolding transferred_at
@@ -69,7 +69,7 @@ transferred_some s l {x} e =
     let k = bind_ok (allowed_at w32 (λ n. is_instance n && nat_lt s.count n) l) (λ k. value_at k.1 >>= λ v. Ok (rec.Transferred k.0 v.0, v.1)) x e in
     let v = bind_ok (value_at k.0.1) (λ v. Ok (rec.Transferred k.0.0 v.0, v.1)) x k.2 in
     let above = ltb-true s.count k.0.0 (and_parts (is_instance k.0.0) (nat_lt s.count k.0.0) (allowed_is w32 (λ n. is_instance n && nat_lt s.count n) l k.0 k.1)).1 in
-    subst (λ (y : KeptRec × Left). IsSome y.0) (ok_is (rec.Transferred k.0.0 v.0.0, v.0.1) x v.2) (omega (arith, above))
+    subst (λ y. IsSome y.0) (ok_is (rec.Transferred k.0.0 v.0.0, v.0.1) x v.2) (omega (arith, above))
 
 content_some : (s : Standing) (at code : ℕ) (l : Left) (x : KeptRec × Left) → content_at s at code l ≡ Ok x → IsSome x.0
 content_some s at code l x e = by (code == 1) (code == 2) (code == 3) (code == 4) (code == 5) (code == 6) e
@@ -107,7 +107,7 @@ based_with service past log (rec.Accepted b i v) some h = h
 based_with service past log (rec.Known i v) some h = h
 based_with service past log (rec.Checkpoint k bytes) some h = λ e. some
 based_with service past log (rec.Dropped k) some h = h
-based_with service past log (rec.Transferred k bytes) some h = λ e. subst (λ (n : ℕ). 0 < n) (sym (first_length k past)) some
+based_with service past log (rec.Transferred k bytes) some h = λ e. subst (λ n. 0 < n) (sym (first_length k past)) some
 
 based_step : (service : Declarations) (past : List Value) (log : List (Rec Value StateValue)) (bytes : List ℕ) → HasBase log → HasBase (log_with service past log (record_in (standing_in log) bytes))
 based_step service past log bytes h = by (record_in (standing_in log) bytes) refl

@@ -48,16 +48,16 @@ use Rattle.rex_node.proofs.Written.{appends_as, call_is, broken_written, log_wri
 -- the parts that a node has of its records don't know its role
 pub logged_as : {K : Type 0} {service : Declarations} {x y : NodeValue K} {log : List (Rec Value StateValue)} → y.acceptor ≡ x.acceptor → y.offset ≡ x.offset → y.known ≡ x.known → y.base ≡ x.base → y.old_base ≡ x.old_base → y.start ≡ x.start → IsLogged service x log → IsLogged service y log
 logged_as {service} {x} {y} a f k b o s h = record {
-  promised = ap (λ (v : AcceptorValue). v.promised) a ∙ h.promised;
-  accepted = ap (λ (v : AcceptorValue). map proposal_in v.accepted) a ∙ h.accepted;
+  promised = ap (λ v. v.promised) a ∙ h.promised;
+  accepted = ap (λ v. map proposal_in v.accepted) a ∙ h.accepted;
   offset_is = f ∙ h.offset_is;
-  low = subst (λ (n : ℕ). n ≤ y.base) (sym f) (subst (λ (n : ℕ). x.offset ≤ n) (sym b) h.low);
+  low = subst (λ n. n ≤ y.base) (sym f) (subst (λ n. x.offset ≤ n) (sym b) h.low);
   known = k ∙ h.known;
   base = b ∙ h.base;
   old_base = o ∙ h.old_base;
-  few = subst (λ (n : ℕ). n ≤ length y.known) (sym b) (subst (λ (vs : List Value). x.base ≤ length vs) (sym k) h.few);
-  start = ap (λ (n : ℕ). run service (start_of service) (trace_of (take n y.known))) b ∙ ap (λ (vs : List Value). run service (start_of service) (trace_of (take x.base vs))) k ∙ h.start ∙ ap (λ (t : StateValue). Some t) (sym s);
-  short = subst (λ (v : AcceptorValue). AreShort v.accepted) (sym a) h.short;
+  few = subst (λ n. n ≤ length y.known) (sym b) (subst (λ vs. x.base ≤ length vs) (sym k) h.few);
+  start = ap (λ n. run service (start_of service) (trace_of (take n y.known))) b ∙ ap (λ vs. run service (start_of service) (trace_of (take x.base vs))) k ∙ h.start ∙ ap (λ t. Some t) (sym s);
+  short = subst (λ v. AreShort v.accepted) (sym a) h.short;
   fits = ap (values_fit service) k ∙ h.fits;
   numbers = h.numbers;
 }
@@ -107,11 +107,11 @@ module _ {nodes id : ℕ} (there : 0 < id) (few : id ≤ nodes) {a : AcceptorVal
 
 -- what is executed has the cut that was proposed
 acts_opened : {service : Declarations} {values : List Value} (a : AcceptorValue) (p : ProposerValue) {w : ActingValue} (i : ℕ) {v : Value} → ActsFor service values (open_of a p.open_instance) w → IsCutAt service values w v → ActsFor service values (open_of (accepting a (own p i v)) (proposed p i).open_instance) w
-acts_opened {service} {values} a p {w} i {v} h cut = subst (λ (q : ProposerValue). ActsFor service values (open_of (accepting a (own p i v)) q.open_instance) w) (sym (opened_is p i)) (go (counting.is_majority p.nodes 1))
+acts_opened {service} {values} a p {w} i {v} h cut = subst (λ q. ActsFor service values (open_of (accepting a (own p i v)) q.open_instance) w) (sym (opened_is p i)) (go (counting.is_majority p.nodes 1))
   where
     go : (t : Bool) → ActsFor service values (open_of (accepting a (own p i v)) (opened_by t p i).open_instance) w
     go true = record { executes = h.executes; open_is_cut = tt }
-    go false = record { executes = h.executes; open_is_cut = subst (λ (o : Option Kept). OpenIsCut service values w (option_map proposal_in o)) (sym (own_open a p)) cut }
+    go false = record { executes = h.executes; open_is_cut = subst (λ o. OpenIsCut service values w (option_map proposal_in o)) (sym (own_open a p)) cut }
 
 pub acting_opened : (service : Declarations) (values : List Value) (a : AcceptorValue) (p : ProposerValue) (w : Option ActingValue) (i : ℕ) (v : Value) → IsActing service values a (Some p) w → IfSome w (λ (b : ActingValue). IsCutAt service values b v)
     → IsActing service values (accepting a (own p i v)) (Some (proposed p i)) w
@@ -120,7 +120,7 @@ acting_opened service values a p (Some w) i v h cut = acts_opened a p i h cut
 
 -- the numbers of what it leads with stay in their ranges
 pub role_opened : {known : ℕ} (a : AcceptorValue) (p : ProposerValue) {active : Bool} {i : ℕ} (v : Value) → i ≡ suc known → IsInstance i → LeadFits known (lead_of a p active) → LeadFits known (lead_of (accepting a (own p i v)) (proposed p i) active)
-role_opened {known} a p {active} {i} v next there h = subst (λ (q : ProposerValue). LeadFits known (lead_of (accepting a (own p i v)) q active)) (sym (opened_is p i)) (go (counting.is_majority p.nodes 1))
+role_opened {known} a p {active} {i} v next there h = subst (λ q. LeadFits known (lead_of (accepting a (own p i v)) q active)) (sym (opened_is p i)) (go (counting.is_majority p.nodes 1))
   where
     none : (q : Proposal Value) → None ≡ Some q → (q.instance ≡ suc known) × IsInstance q.instance
     none q e = absurd (cc)
@@ -131,7 +131,7 @@ role_opened {known} a p {active} {i} v next there h = subst (λ (q : ProposerVal
       ballot = h.ballot;
       reported = h.reported;
       next = λ q e.
-          subst (λ (z : Proposal Value). (z.instance ≡ suc known) × IsInstance z.instance)
+          subst (λ z. (z.instance ≡ suc known) × IsInstance z.instance)
           (same_Some (proposal_of p.ballot i v) q (ap (option_map proposal_in) (sym (own_open a p)) ∙ e)) (next, there);
     }
 
@@ -139,9 +139,9 @@ role_opened {known} a p {active} {i} v next there h = subst (λ (q : ProposerVal
 pub lead_opened : (a : AcceptorValue) (p : ProposerValue) {active : Bool} {id i : ℕ} {v : Value} → ballots.node_of p.ballot ≡ id → counting.is_majority p.nodes 1 ≡ false
     → Leading (lead_of (accepting a (own p i v)) (proposed p i) active) ≡ leading (lead_of a p active) (Some (proposal_of p.ballot i v)) (id ∷ []) active
 lead_opened a p {active} {i} {v} e many =
-    ap (λ (q : ProposerValue). Leading (lead_of (accepting a (own p i v)) q active)) (opened_is p i ∙ ap (λ (t : Bool). opened_by t p i) many)
-    ∙ ap (λ (o : Option Kept). leading (lead_of a p active) (option_map proposal_in o) (ballots.node_of p.ballot ∷ []) active) (own_open a p)
-    ∙ ap (λ (n : ℕ). leading (lead_of a p active) (Some (proposal_of p.ballot i v)) (n ∷ []) active) e
+    ap (λ q. Leading (lead_of (accepting a (own p i v)) q active)) (opened_is p i ∙ ap (λ t. opened_by t p i) many)
+    ∙ ap (λ o. leading (lead_of a p active) (option_map proposal_in o) (ballots.node_of p.ballot ∷ []) active) (own_open a p)
+    ∙ ap (λ n. leading (lead_of a p active) (Some (proposal_of p.ballot i v)) (n ∷ []) active) e
 
 -- an optional value that is there
 pub some_of : {A : Type 0} (o : Option A) → IsSome o → (x : A) × (o ≡ Some x)
@@ -162,7 +162,7 @@ module _ {K : Type 0} (records : K → List (List ℕ)) (gives : K → List ℕ 
   proposes = subst (IsProposer x.nodes x.id x.acceptor) e u.proposer
 
   lead_fits : LeadFits (length x.known) (lead_of x.acceptor p (is_some x.acting))
-  lead_fits = subst (λ (o : Option ProposerValue). RoleFits (length x.known) (role_of x.acceptor o (is_some x.acting))) e (beside_of records service past x u).role
+  lead_fits = subst (λ o. RoleFits (length x.known) (role_of x.acceptor o (is_some x.acting))) e (beside_of records service past x u).role
 
   pub spelled : HasSpelling (kept.Accepted p.ballot i v)
   spelled = record { in_range = (fits_ballot lead_fits.ballot, there, short) }
@@ -194,7 +194,7 @@ module _ {K : Type 0} (records : K → List (List ℕ)) (gives : K → List ℕ 
       ahead = b.ahead;
       caught_up = b.caught_up;
       proposer = proposes_opened id.0 id.1 proposes i v;
-      acting = acting_opened service x.known x.acceptor p x.acting i v (subst (λ (o : Option ProposerValue). IsActing service x.known x.acceptor o x.acting) e u.acting) cut;
+      acting = acting_opened service x.known x.acceptor p x.acting i v (subst (λ o. IsActing service x.known x.acceptor o x.acting) e u.acting) cut;
       stamped = b.stamped;
       role = role_opened x.acceptor p v (omega (arith, next)) (instance_fits there) lead_fits;
     }
@@ -215,14 +215,14 @@ module _ {K : Type 0} (records : K → List (List ℕ)) (gives : K → List ℕ 
       → z ≡ opened y i v → after.effects.items ≡ mid.effects.items ++ told ∷ [] → FromLead y (λ l. map (message_in past) after.sends.items ≡ map (message_in past) mid.sends.items ++ others y.nodes y.id (content_in past (sent.Accept l.ballot i v)))
       → Opens records gives faults service past told i v x z before after On
   opens_on up told {y} {z} before mid after h effects sends z_is more_effects more_sends =
-      subst (λ (o : Option ProposerValue). IfSome o (λ (q : ProposerValue). (k : CallHere → CallHere) → Comes records gives faults service past (λ d. propose x.nodes x.id told d (lead_of x.acceptor q (is_some x.acting)) i v k) (λ d. k (led (leading (lead_of x.acceptor q (is_some x.acting)) (Some (proposal_of q.ballot i v)) (x.id ∷ []) (is_some x.acting)) d)) x z before after On))
+      subst (λ o. IfSome o (λ q. (k : CallHere → CallHere) → Comes records gives faults service past (λ d. propose x.nodes x.id told d (lead_of x.acceptor q (is_some x.acting)) i v k) (λ d. k (led (leading (lead_of x.acceptor q (is_some x.acting)) (Some (proposal_of q.ballot i v)) (x.id ∷ []) (is_some x.acting)) d)) x z before after On))
       (sym e)
-      (λ k. subst (λ (n : NodeValue K). Comes records gives faults service past (λ d. propose x.nodes x.id told d (lead_of x.acceptor p (is_some x.acting)) i v k) (λ d. k (led (leading (lead_of x.acceptor p (is_some x.acting)) (Some (proposal_of p.ballot i v)) (x.id ∷ []) (is_some x.acting)) d)) x n before after On) (sym all) (
+      (λ k. subst (λ n. Comes records gives faults service past (λ d. propose x.nodes x.id told d (lead_of x.acceptor p (is_some x.acting)) i v k) (λ d. k (led (leading (lead_of x.acceptor p (is_some x.acting)) (Some (proposal_of p.ballot i v)) (x.id ∷ []) (is_some x.acting)) d)) x n before after On) (sym all) (
         leads_then records gives faults service
             (written_on records gives faults past u spelled tt refl y before (λ d. k (send (say told (led (leading (lead_of x.acceptor p (is_some x.acting)) (Some (proposal_of p.ballot i v)) (x.id ∷ []) (is_some x.acting)) d)) (others x.nodes x.id (Accept p.ballot i v)))) (λ f. refl) h)
             (leads_same records gives faults service
              (ap length (log_is y.keeper h.records))
-            (λ f. z_comes y.keeper h.records told before after k (more_effects ∙ ap (λ (es : List Effect). es ++ told ∷ []) effects) sends_are)),
+            (λ f. z_comes y.keeper h.records told before after k (more_effects ∙ ap (λ es. es ++ told ∷ []) effects) sends_are)),
         z_kept y.keeper h.records,
         up,
       ))
@@ -231,18 +231,18 @@ module _ {K : Type 0} (records : K → List (List ℕ)) (gives : K → List ℕ 
       y_is = h.parts
 
       all : z ≡ z_at y.keeper
-      all = z_is ∙ ap (λ (n : NodeValue K). opened n i v) y_is ∙ ap (λ (o : Option ProposerValue). record x { keeper = y.keeper; acceptor = accept_own o x.acceptor i v; proposer = option_map (λ (q : ProposerValue). proposed q i) o }) e
+      all = z_is ∙ ap (λ n. opened n i v) y_is ∙ ap (λ o. record x { keeper = y.keeper; acceptor = accept_own o x.acceptor i v; proposer = option_map (λ q. proposed q i) o }) e
 
       sends_are : map (message_in past) after.sends.items ≡ map (message_in past) before.sends.items ++ others x.nodes x.id (Accept p.ballot i v)
-      sends_are = subst (λ (o : Option ProposerValue). IfSome o (λ (q : ProposerValue). map (message_in past) after.sends.items ≡ map (message_in past) before.sends.items ++ others x.nodes x.id (Accept q.ballot i v))) e
-          (subst (λ (ms : List Sent). IfSome x.proposer (λ (q : ProposerValue). map (message_in past) after.sends.items ≡ map (message_in past) ms ++ others x.nodes x.id (Accept q.ballot i v))) sends
-          (subst (λ (n : NodeValue K). FromLead n (λ l. map (message_in past) after.sends.items ≡ map (message_in past) mid.sends.items ++ others n.nodes n.id (content_in past (sent.Accept l.ballot i v)))) y_is more_sends))
+      sends_are = subst (λ o. IfSome o (λ q. map (message_in past) after.sends.items ≡ map (message_in past) before.sends.items ++ others x.nodes x.id (Accept q.ballot i v))) e
+          (subst (λ ms. IfSome x.proposer (λ q. map (message_in past) after.sends.items ≡ map (message_in past) ms ++ others x.nodes x.id (Accept q.ballot i v))) sends
+          (subst (λ n. FromLead n (λ l. map (message_in past) after.sends.items ≡ map (message_in past) mid.sends.items ++ others n.nodes n.id (content_in past (sent.Accept l.ballot i v)))) y_is more_sends))
 
   -- or the node is down
   pub opens_down : (told : Effect) {y : NodeValue K} (before after : Draft) → Falls records faults gives x y (record_bytes (kept.Accepted p.ballot i v)) → after.effects.items ≡ before.effects.items ++ effect.Down x.id ∷ [] → after.sends.items ≡ []
       → Opens records gives faults service past told i v x y before after Down
   opens_down told {y} before after h effects sends =
-      subst (λ (o : Option ProposerValue). IfSome o (λ (q : ProposerValue). (k : CallHere → CallHere) → Comes records gives faults service past (λ d. propose x.nodes x.id told d (lead_of x.acceptor q (is_some x.acting)) i v k) (λ d. k (led (leading (lead_of x.acceptor q (is_some x.acting)) (Some (proposal_of q.ballot i v)) (x.id ∷ []) (is_some x.acting)) d)) x y before after Down))
+      subst (λ o. IfSome o (λ q. (k : CallHere → CallHere) → Comes records gives faults service past (λ d. propose x.nodes x.id told d (lead_of x.acceptor q (is_some x.acting)) i v k) (λ d. k (led (leading (lead_of x.acceptor q (is_some x.acting)) (Some (proposal_of q.ballot i v)) (x.id ∷ []) (is_some x.acting)) d)) x y before after Down))
       (sym e)
       (λ k. written_down records gives faults past u spelled tt refl y before (λ d. k (send (say told (led (leading (lead_of x.acceptor p (is_some x.acting)) (Some (proposal_of p.ballot i v)) (x.id ∷ []) (is_some x.acting)) d)) (others x.nodes x.id (Accept p.ballot i v)))) (λ f. refl)
       after refl h effects sends (λ d. k (led (leading (lead_of x.acceptor p (is_some x.acting)) (Some (proposal_of p.ballot i v)) (x.id ∷ []) (is_some x.acting)) d)))
@@ -250,7 +250,7 @@ module _ {K : Type 0} (records : K → List (List ℕ)) (gives : K → List ℕ 
   -- or memory was short with the acceptance written down
   pub opens_broken : (told : Effect) {y z : NodeValue K} (before : Draft) → Keeps records faults gives x y (record_bytes (kept.Accepted p.ballot i v)) → z.keeper ≡ y.keeper → z.base ≡ y.base → OpensShort records gives faults service past told i v x z before
   opens_broken told {y} {z} before h keeper based =
-      inr (subst (λ (o : Option ProposerValue). IfSome o (λ (q : ProposerValue). (k : CallHere → CallHere) → LosesFirst k → BreaksOff records gives faults service past (λ d. propose x.nodes x.id told d (lead_of x.acceptor q (is_some x.acting)) i v k) x z before))
+      inr (subst (λ o. IfSome o (λ q. (k : CallHere → CallHere) → LosesFirst k → BreaksOff records gives faults service past (λ d. propose x.nodes x.id told d (lead_of x.acceptor q (is_some x.acting)) i v k) x z before))
       (sym e)
       (λ k loses. broken_written records gives faults past u spelled tt refl y before (λ d. k (send (say told (led (leading (lead_of x.acceptor p (is_some x.acting)) (Some (proposal_of p.ballot i v)) (x.id ∷ []) (is_some x.acting)) d)) (others x.nodes x.id (Accept p.ballot i v)))) (λ f. refl)
       refl h keeper based (λ d. loses (send (say told (led (leading (lead_of x.acceptor p (is_some x.acting)) (Some (proposal_of p.ballot i v)) (x.id ∷ []) (is_some x.acting)) d)) (others x.nodes x.id (Accept p.ballot i v))))))
@@ -261,17 +261,17 @@ module _ {K : Type 0} {records : K → List (List ℕ)} (gives : K → List ℕ 
     {i : ℕ} {v : Value} (next : i ≡ length x.known + 1) (there : ballots.IsInstance i) (short : IsValue v) (cut : IsOwnCut service x v)
     {b : ℕ} (b_is : b ≡ unwrap_or (option_map (λ (p : ProposerValue). p.ballot) x.proposer) 0) where
   b_own : {p : ProposerValue} → x.proposer ≡ Some p → b ≡ p.ballot
-  b_own e = b_is ∙ ap (λ (o : Option ProposerValue). unwrap_or (option_map (λ (q : ProposerValue). q.ballot) o) 0) e
+  b_own e = b_is ∙ ap (λ o. unwrap_or (option_map (λ q. q.ballot) o) 0) e
 
   pub propose_spelled : {w : Value} → w ≡ v → HasSpelling (kept.Accepted b i w)
   propose_spelled {w} w_is =
       let s = some_of _ leads in
-      subst (λ (n : ℕ). HasSpelling (kept.Accepted n i w)) (sym (b_own s.1)) (subst (λ (z : Value). HasSpelling (kept.Accepted s.0.ballot i z)) (sym w_is)
+      subst (λ n. HasSpelling (kept.Accepted n i w)) (sym (b_own s.1)) (subst (λ z. HasSpelling (kept.Accepted s.0.ballot i z)) (sym w_is)
       (spelled records gives faults past (kept_so.up up) kept_so.id kept_so.few kept_so.reached kept_so.decoded s.1 next there short cut))
 
   module _ (told : Effect) {w : Value} (w_is : w ≡ v) (y : NodeValue K) (before mid : Draft) (g : Going) (h : Appends records faults gives x y before mid (record_bytes (kept.Accepted b i w)) g) where
     same_rec : {p : ProposerValue} → x.proposer ≡ Some p → (let r : KeptRec = kept.Accepted b i w in r) ≡ kept.Accepted p.ballot i v
-    same_rec {p} e = ap (λ (n : ℕ). kept.Accepted n i w) (b_own e) ∙ ap (λ (z : Value). kept.Accepted p.ballot i z) w_is
+    same_rec {p} e = ap (λ n. kept.Accepted n i w) (b_own e) ∙ ap (λ z. kept.Accepted p.ballot i z) w_is
 
     pub propose_down : g ≡ Down → Opens records gives faults service past told i v x y before mid Down
     propose_down e =

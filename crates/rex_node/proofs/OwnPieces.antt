@@ -78,15 +78,15 @@ module _ {K : Type 0} {records : K → List (List ℕ)} {service : Declarations}
   -- the value of the piece runs on after what is known
   pub own_fits : IsService service → {vs : List Value} {v : Value} → vs ≡ x.known → v ≡ p.value → values_fit service (vs ++ v ∷ []) ≡ true
   own_fits good {v} vs_are v_is =
-      subst (λ (ws : List Value). values_fit service (ws ++ v ∷ []) ≡ true) (sym vs_are)
-      (subst (λ (w : Value). values_fit service (x.known ++ w ∷ []) ≡ true) (sym v_is) (piece_fits good runs is_up.fits _ has.many one.2))
+      subst (λ ws. values_fit service (ws ++ v ∷ []) ≡ true) (sym vs_are)
+      (subst (λ w. values_fit service (x.known ++ w ∷ []) ≡ true) (sym v_is) (piece_fits good runs is_up.fits _ has.many one.2))
 
   -- and it is the cut that the node proposed last, once that is the piece's
   pub own_cut : IsService service → {y : NodeValue K} {v : Value} → y ≡ with_cut x p.cut.counts → v ≡ p.value → IsOwnCut service y v
   own_cut good {v} y_is v_is =
-      subst (λ (z : NodeValue K). IsOwnCut service z v) (sym y_is)
-      (subst (λ (w : Option ActingValue). IfSome (option_map (cut_at p.cut.counts) w) (λ (a : ActingValue). IsCutAt service x.known a v)) (sym one.1)
-      (subst (λ (w : Value). IsCutAt service x.known (cut_at p.cut.counts one.0) w) (sym v_is) (piece_cut good runs is_up.fits _ has.many one.2)))
+      subst (λ z. IsOwnCut service z v) (sym y_is)
+      (subst (λ w. IfSome (option_map (cut_at p.cut.counts) w) (λ a. IsCutAt service x.known a v)) (sym one.1)
+      (subst (λ w. IsCutAt service x.known (cut_at p.cut.counts one.0) w) (sym v_is) (piece_cut good runs is_up.fits _ has.many one.2)))
 
   -- ---- the call
 
@@ -103,7 +103,7 @@ module _ {K : Type 0} {records : K → List (List ℕ)} {service : Declarations}
     here_with (Some a) = refl
 
     draft_with : (before : Draft) → so_far records service past at before ≡ so_far records service past x before
-    draft_with before = ap (λ (h : Here). record (so_far records service past x before) { node = h }) (here_with x.acting)
+    draft_with before = ap (λ h. record (so_far records service past x before) { node = h }) (here_with x.acting)
 
     active_same : (w : Option ActingValue) → is_some (option_map (cut_at cut) w) ≡ is_some w
     active_same None = refl
@@ -126,12 +126,12 @@ module _ {K : Type 0} {records : K → List (List ℕ)} {service : Declarations}
 
       same_call : propose_cut service x.seed x.nodes x.id cut l now ≡ proposes p.events p.value l now
       same_call =
-          ap (λ (vs : List Value). of_live (suc (length vs)) cut (work_of x.acting).live) (sym is_up.known)
-          ∙ ap (λ (i : ℕ). of_live i cut (work_of x.acting).live) (add_one)
-          ∙ ap (λ (w : Option ActingValue). of_live (length x.known + 1) cut (work_of w).live) one.1
-          ∙ ap (λ (c : List ℕ). of_live (length x.known + 1) c one.0.recorder.live) one.2.cut_is
-          ∙ ap (λ (e : ℕ). of_parts (length x.known + 1) e (value_at (cut_in one.0 has.limits) one.0.recorder.live)) (sym one.2.events)
-          ∙ ap (λ (v : Value). of_parts (length x.known + 1) p.events v) (sym one.2.value)
+          ap (λ vs. of_live (suc (length vs)) cut (work_of x.acting).live) (sym is_up.known)
+          ∙ ap (λ i. of_live i cut (work_of x.acting).live) (add_one)
+          ∙ ap (λ w. of_live (length x.known + 1) cut (work_of w).live) one.1
+          ∙ ap (λ c. of_live (length x.known + 1) c one.0.recorder.live) one.2.cut_is
+          ∙ ap (λ e. of_parts (length x.known + 1) e (value_at (cut_in one.0 has.limits) one.0.recorder.live)) (sym one.2.events)
+          ∙ ap (λ v. of_parts (length x.known + 1) p.events v) (sym one.2.value)
 
     module _ (y : NodeValue K) (before after : Draft) where
       abbrev EndsBy : (CallHere → CallHere) → NodeValue K → Going → Type 0
@@ -143,21 +143,21 @@ module _ {K : Type 0} {records : K → List (List ℕ)} {service : Declarations}
           ends_as records gives faults service past _ _ x before after going (λ f. same_call before l f) (begins_here l going h)
         where
           begins_here : (m : Lead Value) (going : Going) → EndsBy (proposes p.events p.value m) at going → EndsBy (proposes p.events p.value m) x going
-          begins_here m On k = ((subst (λ (d : CallHere). LeadsOn records gives faults service (proposes p.events p.value m) (λ e. e) x.keeper y.keeper d (so_far records service past y after)) (draft_with before) k.0.0, k.0.1, k.0.2), k.1)
-          begins_here m Down k = ((subst (λ (d : CallHere). Fell records gives faults service (proposes p.events p.value m) x.id x.keeper y.keeper d (so_far records service past y after)) (draft_with before) k.0.0, k.0.1), k.1)
+          begins_here m On k = ((subst (λ d. LeadsOn records gives faults service (proposes p.events p.value m) (λ e. e) x.keeper y.keeper d (so_far records service past y after)) (draft_with before) k.0.0, k.0.1, k.0.2), k.1)
+          begins_here m Down k = ((subst (λ d. Fell records gives faults service (proposes p.events p.value m) x.id x.keeper y.keeper d (so_far records service past y after)) (draft_with before) k.0.0, k.0.1), k.1)
 
       pub piece_ends : {mid : NodeValue K} → mid ≡ with_cut x p.cut.counts → {value : Value} → value ≡ p.value → (going : Going)
           → ProposesCut records gives faults service past p.events value mid y before after going → ProposesPiece records gives faults service past p.cut.counts x y before after going
       piece_ends {mid} mid_is value_is going h =
           from_lead x (λ l. EndsBy (propose_cut service x.seed x.nodes x.id cut l) x going)
           (λ q leads. ends_with (lead_of x.acceptor q (is_some x.acting)) going
-          (subst (λ (t : Bool). EndsBy (proposes p.events p.value (lead_of x.acceptor q t)) at going) (active_same x.acting)
+          (subst (λ t. EndsBy (proposes p.events p.value (lead_of x.acceptor q t)) at going) (active_same x.acting)
           (lead_from at (λ l. EndsBy (proposes p.events p.value l) at going) q leads h_at)))
         where
           h_at : ProposesCut records gives faults service past p.events p.value at y before after going
           h_at =
-              subst (λ (z : NodeValue K). ProposesCut records gives faults service past p.events p.value z y before after going) mid_is
-              (subst (λ (v : Value). ProposesCut records gives faults service past p.events v mid y before after going) value_is h)
+              subst (λ z. ProposesCut records gives faults service past p.events p.value z y before after going) mid_is
+              (subst (λ v. ProposesCut records gives faults service past p.events v mid y before after going) value_is h)
 
       -- ---- memory was short, and the cut that was proposed last is the one before
 
@@ -169,21 +169,21 @@ module _ {K : Type 0} {records : K → List (List ℕ)} {service : Declarations}
       short_back {mid} {z} mid_is {counts} counts_are z_is s = record {
         parts =
             z_is
-            ∙ ap (λ (n : NodeValue K). with_cut n counts) s.parts
-            ∙ ap (λ (n : NodeValue K). with_cut (record n { keeper = y.keeper }) counts) mid_is
-            ∙ ap (λ (c : List ℕ). with_cut (record (with_cut x cut) { keeper = y.keeper }) c) counts_are
-            ∙ ap (λ (w : Option ActingValue). record x { keeper = y.keeper; acting = w }) (cut_back x.acting)
-            ∙ ap (λ (k : K). record x { keeper = k }) (sym keeper);
+            ∙ ap (λ n. with_cut n counts) s.parts
+            ∙ ap (λ n. with_cut (record n { keeper = y.keeper }) counts) mid_is
+            ∙ ap (λ c. with_cut (record (with_cut x cut) { keeper = y.keeper }) c) counts_are
+            ∙ ap (λ w. record x { keeper = y.keeper; acting = w }) (cut_back x.acting)
+            ∙ ap (λ k. record x { keeper = k }) (sym keeper);
         records = ap records keeper ∙ s.records ∙ ap records begun;
         faults = ap faults keeper ∙ s.faults ∙ ap faults begun;
-        short = subst (λ (k : K). RunsShort gives x.keeper k) (sym keeper) (subst (λ (k : K). RunsShort gives k y.keeper) begun s.short);
+        short = subst (λ k. RunsShort gives x.keeper k) (sym keeper) (subst (λ k. RunsShort gives k y.keeper) begun s.short);
       }
         where
           keeper : z.keeper ≡ y.keeper
-          keeper = ap (λ (n : NodeValue K). n.keeper) z_is
+          keeper = ap (λ n. n.keeper) z_is
 
           begun : mid.keeper ≡ x.keeper
-          begun = ap (λ (n : NodeValue K). n.keeper) mid_is
+          begun = ap (λ n. n.keeper) mid_is
 
       abbrev BreaksBy : (CallHere → CallHere) → NodeValue K → Type 0
       BreaksBy whole z = BreaksOff records gives faults service past whole z y before
@@ -192,7 +192,7 @@ module _ {K : Type 0} {records : K → List (List ℕ)} {service : Declarations}
       breaks_with : (l : Lead Value) → BreaksBy (proposes p.events p.value l) at → BreaksBy (propose_cut service x.seed x.nodes x.id cut l) x
       breaks_with l h =
           breaks_as {same = proposes p.events p.value l} (λ f. same_call before l f)
-          (record { stops = subst (λ (d : CallHere). StopsShort records gives faults service (proposes p.events p.value l) x.keeper y.keeper d (log_of service past (records y.keeper))) (draft_with before) h.stops; based = h.based })
+          (record { stops = subst (λ d. StopsShort records gives faults service (proposes p.events p.value l) x.keeper y.keeper d (log_of service past (records y.keeper))) (draft_with before) h.stops; based = h.based })
 
       abbrev ProposesAt : ℕ → Value → NodeValue K → Type 0
       ProposesAt events v n =
@@ -203,13 +203,13 @@ module _ {K : Type 0} {records : K → List (List ℕ)} {service : Declarations}
       piece_short {mid} {z} mid_is value_is {counts} counts_are z_is (inl s) = inl (short_back mid_is counts_are z_is s)
       piece_short {mid} {z} mid_is value_is counts_are z_is (inr b) =
           inr (from_lead x (λ l. BreaksOff records gives faults service past (propose_cut service x.seed x.nodes x.id cut l) x z before)
-          (λ q leads. breaks_kept (ap (λ (n : NodeValue K). n.keeper) z_is) (ap (λ (n : NodeValue K). n.base) z_is)
+          (λ q leads. breaks_kept (ap (λ n. n.keeper) z_is) (ap (λ n. n.base) z_is)
           (breaks_with (lead_of x.acceptor q (is_some x.acting))
-          (subst (λ (t : Bool). BreaksBy (proposes p.events p.value (lead_of x.acceptor q t)) at) (active_same x.acting)
+          (subst (λ t. BreaksBy (proposes p.events p.value (lead_of x.acceptor q t)) at) (active_same x.acting)
           (lead_from at (λ l. BreaksBy (proposes p.events p.value l) at) q leads b_at)))))
         where
           b_at : ProposesAt p.events p.value at
-          b_at = subst (λ (n : NodeValue K). ProposesAt p.events p.value n) mid_is (subst (λ (v : Value). ProposesAt p.events v mid) value_is b)
+          b_at = subst (λ n. ProposesAt p.events p.value n) mid_is (subst (λ v. ProposesAt p.events v mid) value_is b)
 
 -- a result that is an error says nothing
 pub if_error : {A E : Type 0} (P : A → Type 0) (r : Result A E) → is_err r ≡ true → IfOk r P
@@ -254,36 +254,36 @@ module _ {K : Type 0} (records : K → List (List ℕ)) (service : Declarations)
 
   -- what is computed from the node's counts and live events is computed from what it executes
   there : {T : Type 0} (f : List ℕ → List Event → T) → f counts live ≡ f (counts_in a has.limits) a.recorder.live
-  there f = ap (λ (w : Option ActingValue). f counts (work_of w).live) has_one.1 ∙ ap (λ (cs : List ℕ). f cs a.recorder.live) counts_of_it
+  there f = ap (λ w. f counts (work_of w).live) has_one.1 ∙ ap (λ cs. f cs a.recorder.live) counts_of_it
 
   faithful : is_faithful service x.seed (known d.node.log) (greatest_cut counts live) live ≡ true
   faithful =
-      ap (λ (vs : List Value). is_faithful service x.seed vs (greatest_cut counts live) live) (sym up_now.known)
+      ap (λ vs. is_faithful service x.seed vs (greatest_cut counts live) live) (sym up_now.known)
       ∙ there (λ cs es. is_faithful service x.seed x.known (greatest_cut cs es) es)
       ∙ piece_faithful good (executes service x.known x.acceptor _ x.acting a up_now.acting has_one.1) up_now.fits _ has.many has_one.2 x.seed
 
   some : 0 < length (below (greatest_cut counts live) live)
-  some = subst (λ (n : ℕ). 0 < n) (sym (there (λ cs es. length (below (greatest_cut cs es) es)))) has_one.2.some
+  some = subst (λ n. 0 < n) (sym (there (λ cs es. length (below (greatest_cut cs es) es)))) has_one.2.some
 
   idle : open_of x.acceptor q.open_instance ≡ None
   idle = subst (IsIdle x.acceptor) leads has.can.idle
 
   left : nat_le 65535 (length (known d.node.log)) ≡ false
-  left = lt-leb 65535 (length (known d.node.log)) (subst (λ (vs : List Value). length vs < 65535) up_now.known has.can.left)
+  left = lt-leb 65535 (length (known d.node.log)) (subst (λ vs. length vs < 65535) up_now.known has.can.left)
 
   proposes_some : (es : List Event) → 0 < length es → cut_live service x.seed x.nodes x.id (greatest_cut counts live) l es d ≡ propose_cut service x.seed x.nodes x.id (greatest_cut counts live) l d
   proposes_some [] h = absurd (omega arith)
-  proposes_some (e ∷ es) h = ap (λ (t : Bool). cond t (propose_cut service x.seed x.nodes x.id (greatest_cut counts live) l d) (say effect.Nothing d)) faithful
+  proposes_some (e ∷ es) h = ap (λ t. cond t (propose_cut service x.seed x.nodes x.id (greatest_cut counts live) l d) (say effect.Nothing d)) faithful
 
   -- the call of a cut proposes the piece
   pub cuts_piece : lanes.cut service x.seed x.nodes x.id counts d ≡ propose_cut service x.seed x.nodes x.id p.cut.counts l d
   cuts_piece =
-      ap (λ (o : Option ProposerValue). cut_role service x.seed x.nodes x.id counts (role_of x.acceptor o (is_some x.acting)) d) leads
-      ∙ ap (λ (w : Option ActingValue). active_only (is_some w) d (cut_lead service x.seed x.nodes x.id counts l l.proposal d)) has_one.1
-      ∙ ap (λ (o : Option (Proposal Value)). cut_lead service x.seed x.nodes x.id counts l o d) idle
-      ∙ ap (λ (t : Bool). cond t (say effect.Ended d) (cut_live service x.seed x.nodes x.id (greatest_cut counts live) l (below (greatest_cut counts live) live) d)) left
+      ap (λ o. cut_role service x.seed x.nodes x.id counts (role_of x.acceptor o (is_some x.acting)) d) leads
+      ∙ ap (λ w. active_only (is_some w) d (cut_lead service x.seed x.nodes x.id counts l l.proposal d)) has_one.1
+      ∙ ap (λ o. cut_lead service x.seed x.nodes x.id counts l o d) idle
+      ∙ ap (λ t. cond t (say effect.Ended d) (cut_live service x.seed x.nodes x.id (greatest_cut counts live) l (below (greatest_cut counts live) live) d)) left
       ∙ proposes_some _ some
-      ∙ ap (λ (c : List ℕ). propose_cut service x.seed x.nodes x.id c l d) (there greatest_cut ∙ sym has_one.2.cut_is)
+      ∙ ap (λ c. propose_cut service x.seed x.nodes x.id c l d) (there greatest_cut ∙ sym has_one.2.cut_is)
 
 module _ {K : Type 0} (records : K → List (List ℕ)) (gives : K → List ℕ → Answer → K → Type 0) (faults : K → ℕ) (service : Declarations) (past : List Value) where
   -- a cut ends as its piece is proposed

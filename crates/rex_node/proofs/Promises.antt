@@ -45,7 +45,7 @@ on_err_anyway (Err e) P p = p
 pub appends_at : {K : Type 0} (records : K → List (List ℕ)) (gives : K → List ℕ → Answer → K → Type 0) (faults : K → ℕ) (x y : NodeValue K) (before mid : Draft) (r : KeptRec) {s : KeptRec} {g h : Going} → r ≡ s → g ≡ h
     → Appends records faults gives x y before mid (record_bytes r) g → Appends records faults gives x y before mid (record_bytes s) h
 appends_at records gives faults x y before mid r {s} {g} a b k =
-    subst (λ (z : Going). Appends records faults gives x y before mid (record_bytes s) z) b (subst (λ (z : KeptRec). Appends records faults gives x y before mid (record_bytes z) g) a k)
+    subst (λ z. Appends records faults gives x y before mid (record_bytes s) z) b (subst (λ z. Appends records faults gives x y before mid (record_bytes z) g) a k)
 
 module _ {K : Type 0} {records : K → List (List ℕ)} (gives : K → List ℕ → Answer → K → Type 0) (faults : K → ℕ) {service : Declarations} {past : List Value} {x : NodeValue K} (node : IsResting records service past x) (up : x.up ≡ true) (before : Draft) (from b : ℕ) where
   u : IsUp service x (here_of records service past x)
@@ -61,8 +61,8 @@ module _ {K : Type 0} {records : K → List (List ℕ)} (gives : K → List ℕ 
     pub prepare_old : Begins (known (here_of records service past x).log) past → {after : Draft} → x.acceptor.promised ≤ b → first ≤ x.offset → TellsBase service x from before after → EndsWell records gives faults service past x x before after prepare
     prepare_old begins {after} more old t =
         ends_same records gives faults service past x x before after refl node up
-        (λ f. ap (λ (t : Bool). cond t (nacks f) (cond (nat_le first (offset (here_of records service past x).log)) (tells f) (others f))) (le-ltb b (promise (here_of records service past x).log) (omega (arith, more, u.promised)))
-        ∙ ap (λ (t : Bool). cond t (tells f) (others f)) (le-leb first (offset (here_of records service past x).log) (subst (λ (o : ℕ). first ≤ o) u.offset old))
+        (λ f. ap (λ t. cond t (nacks f) (cond (nat_le first (offset (here_of records service past x).log)) (tells f) (others f))) (le-ltb b (promise (here_of records service past x).log) (omega (arith, more, u.promised)))
+        ∙ ap (λ t. cond t (tells f) (others f)) (le-leb first (offset (here_of records service past x).log) (subst (λ o. first ≤ o) u.offset old))
         ∙ ap (armed_with f) (sym (tells_base records u begins t)))
       where
         nacks : Option Failure → CallHere
@@ -81,10 +81,10 @@ module _ {K : Type 0} {records : K → List (List ℕ)} (gives : K → List ℕ 
     pub prepare_again : {after : Draft} → b ≡ x.acceptor.promised → x.offset < first → Sends before after (answering x.id from (sent.Promise b (from_instance first x.acceptor.accepted))) → EndsWell records gives faults service past x x before after prepare
     prepare_again {after} same late s =
         ends_same records gives faults service past x x before after refl node up
-        (λ f. ap (λ (t : Bool). cond t (nacks f) (cond (nat_le first (offset (here_of records service past x).log)) (tells f) (cond (nat_lt (promise (here_of records service past x).log) b) (raises f) (again f)))) (le-ltb b (promise (here_of records service past x).log) (omega (arith, same, u.promised)))
-        ∙ ap (λ (t : Bool). cond t (tells f) (cond (nat_lt (promise (here_of records service past x).log) b) (raises f) (again f))) (lt-leb first (offset (here_of records service past x).log) (subst (λ (o : ℕ). o < first) u.offset late))
-        ∙ ap (λ (t : Bool). cond t (raises f) (again f)) (le-ltb (promise (here_of records service past x).log) b (omega (arith, same, u.promised)))
-        ∙ ap (λ (ps : List (Proposal Value)). send (armed_with f (so_far records service past x before)) (answer x.id from (Promise b ps))) (sym (from_kept first _ ∙ ap (from_on first) u.accepted))
+        (λ f. ap (λ t. cond t (nacks f) (cond (nat_le first (offset (here_of records service past x).log)) (tells f) (cond (nat_lt (promise (here_of records service past x).log) b) (raises f) (again f)))) (le-ltb b (promise (here_of records service past x).log) (omega (arith, same, u.promised)))
+        ∙ ap (λ t. cond t (tells f) (cond (nat_lt (promise (here_of records service past x).log) b) (raises f) (again f))) (lt-leb first (offset (here_of records service past x).log) (subst (λ o. o < first) u.offset late))
+        ∙ ap (λ t. cond t (raises f) (again f)) (le-ltb (promise (here_of records service past x).log) b (omega (arith, same, u.promised)))
+        ∙ ap (λ ps. send (armed_with f (so_far records service past x before)) (answer x.id from (Promise b ps))) (sym (from_kept first _ ∙ ap (from_on first) u.accepted))
         ∙ ap (armed_with f) (sym (sends_to records service past x before after from _ s)))
       where
         nacks : Option Failure → CallHere
@@ -107,9 +107,9 @@ module _ {K : Type 0} {records : K → List (List ℕ)} (gives : K → List ℕ 
       raises_is : (f : Option Failure) → on_prepare x.id from b first (armed_with f (so_far records service past x before))
           ≡ append f x.id (Promised b) (armed_with f (so_far records service past x before)) (λ e. promised x.id from b first (follow x.id (effect.Promised x.id b ∷ []) e))
       raises_is f =
-          ap (λ (t : Bool). cond t nacks (cond (nat_le first (offset (here_of records service past x).log)) tells (cond (nat_lt (promise (here_of records service past x).log) b) raises again))) (le-ltb b (promise (here_of records service past x).log) (omega (arith, above, u.promised)))
-          ∙ ap (λ (t : Bool). cond t tells (cond (nat_lt (promise (here_of records service past x).log) b) raises again)) (lt-leb first (offset (here_of records service past x).log) (subst (λ (o : ℕ). o < first) u.offset late))
-          ∙ ap (λ (t : Bool). cond t raises again) (lt-ltb (promise (here_of records service past x).log) b (omega (arith, above, u.promised)))
+          ap (λ t. cond t nacks (cond (nat_le first (offset (here_of records service past x).log)) tells (cond (nat_lt (promise (here_of records service past x).log) b) raises again))) (le-ltb b (promise (here_of records service past x).log) (omega (arith, above, u.promised)))
+          ∙ ap (λ t. cond t tells (cond (nat_lt (promise (here_of records service past x).log) b) raises again)) (lt-leb first (offset (here_of records service past x).log) (subst (λ o. o < first) u.offset late))
+          ∙ ap (λ t. cond t raises again) (lt-ltb (promise (here_of records service past x).log) b (omega (arith, above, u.promised)))
         where
           nacks : CallHere
           nacks = send (armed_with f (so_far records service past x before)) (answer x.id from (Nack b (promise (here_of records service past x).log)))
@@ -140,17 +140,17 @@ module _ {K : Type 0} {records : K → List (List ℕ)} (gives : K → List ℕ 
           (follows_up gives faults y before mid node up spelled tt refl refl h logged_here (le_refl _) (λ n l. refl) z_here)
           (λ f. refl)
           (sends_to records service past z told after from _ s
-          ∙ ap (λ (e : CallHere). send e (answer z.id from (Promise b (map proposal_in (from_instance first z.acceptor.accepted)))))
+          ∙ ap (λ e. send e (answer z.id from (Promise b (map proposal_in (from_instance first z.acceptor.accepted)))))
           (follows_to gives faults y before mid node up spelled tt refl refl h logged_here (le_refl _) (λ n l. refl) z_here
-          (subst (λ (i : ℕ). Tells mid told (effect.Promised i b ∷ followed y.id (role_of y.acceptor y.proposer (is_some y.acting)))) (ap (λ (n : NodeValue K). n.id) h.0.parts) t))
-          ∙ ap (λ (n : NodeValue K). send (follow x.id (effect.Promised x.id b ∷ []) (logged (Promised b) None (so_far records service past x before))) (answer n.id from (Promise b (map proposal_in (from_instance first n.acceptor.accepted))))) z_here
-          ∙ ap (λ (ps : List (Proposal Value)). send (follow x.id (effect.Promised x.id b ∷ []) (logged (Promised b) None (so_far records service past x before))) (answer x.id from (Promise b ps))) (from_kept first _ ∙ ap (from_on first) u.accepted))
+          (subst (λ i. Tells mid told (effect.Promised i b ∷ followed y.id (role_of y.acceptor y.proposer (is_some y.acting)))) (ap (λ n. n.id) h.0.parts) t))
+          ∙ ap (λ n. send (follow x.id (effect.Promised x.id b ∷ []) (logged (Promised b) None (so_far records service past x before))) (answer n.id from (Promise b (map proposal_in (from_instance first n.acceptor.accepted))))) z_here
+          ∙ ap (λ ps. send (follow x.id (effect.Promised x.id b ∷ []) (logged (Promised b) None (so_far records service past x before))) (answer x.id from (Promise b ps))) (from_kept first _ ∙ ap (from_on first) u.accepted))
         where
           a : AcceptorValue
           a = promising x.acceptor b
 
           z_here : z ≡ record (leaving x) { keeper = y.keeper; acceptor = promising x.acceptor b; known = x.known }
-          z_here = z_is ∙ ap (λ (n : NodeValue K). record (leaving n) { acceptor = promising n.acceptor b }) h.0.parts
+          z_here = z_is ∙ ap (λ n. record (leaving n) { acceptor = promising n.acceptor b }) h.0.parts
 
           logged_here : IsLogged service (record x { keeper = y.keeper; acceptor = promising x.acceptor b; known = x.known }) (Promised b ∷ log_of service past (records x.keeper))
           logged_here =
@@ -178,7 +178,7 @@ module _ {K : Type 0} {records : K → List (List ℕ)} (gives : K → List ℕ 
       has_it : has_last b i (accepted (here_of records service past x).log) ≡ not fresh
       has_it =
           ap (has_last b i) (sym u.accepted)
-          ∙ last_kept b i 0 x.acceptor.accepted (rising_zero x.acceptor.accepted (subst (λ (ps : List (Proposal Value)). AreRising 0 ps) (sym u.accepted) (accepted_rising (here_of records service past x).log u.numbers.log.instances)))
+          ∙ last_kept b i 0 x.acceptor.accepted (rising_zero x.acceptor.accepted (subst (λ ps. AreRising 0 ps) (sym u.accepted) (accepted_rising (here_of records service past x).log u.numbers.log.instances)))
           ∙ (asked_parts (nat_lt b x.acceptor.promised) (is_of_ballot b (proposal_for i x.acceptor.accepted)) fresh x.acceptor.promised answer_is).1
 
       -- then the call is this
@@ -191,20 +191,20 @@ module _ {K : Type 0} {records : K → List (List ℕ)} (gives : K → List ℕ 
 
       after_promise : (f : Option Failure) → on_accept x.id from b i v (armed_with f (so_far records service past x before)) ≡ cond (nat_le i (offset (here_of records service past x).log)) (answer_base x.id from (armed_with f (so_far records service past x before))) (goes f)
       after_promise f =
-          ap (λ (t : Bool). cond t (send (armed_with f (so_far records service past x before)) (answer x.id from (Nack b (promise (here_of records service past x).log)))) (cond (nat_le i (offset (here_of records service past x).log)) (answer_base x.id from (armed_with f (so_far records service past x before))) (goes f))) not_less
+          ap (λ t. cond t (send (armed_with f (so_far records service past x before)) (answer x.id from (Nack b (promise (here_of records service past x).log)))) (cond (nat_le i (offset (here_of records service past x).log)) (answer_base x.id from (armed_with f (so_far records service past x before))) (goes f))) not_less
 
       accept_is : x.offset < i → (f : Option Failure) → on_accept x.id from b i v (armed_with f (so_far records service past x before)) ≡ cond (not fresh) (send (armed_with f (so_far records service past x before)) (answer x.id from (Voted b i))) (accepts f)
       accept_is late f =
           after_promise f
-          ∙ ap (λ (t : Bool). cond t (answer_base x.id from (armed_with f (so_far records service past x before))) (goes f)) (lt-leb i (offset (here_of records service past x).log) (subst (λ (o : ℕ). o < i) u.offset late))
-          ∙ ap (λ (t : Bool). cond t (send (armed_with f (so_far records service past x before)) (answer x.id from (Voted b i))) (accepts f)) has_it
+          ∙ ap (λ t. cond t (answer_base x.id from (armed_with f (so_far records service past x before))) (goes f)) (lt-leb i (offset (here_of records service past x).log) (subst (λ o. o < i) u.offset late))
+          ∙ ap (λ t. cond t (send (armed_with f (so_far records service past x before)) (answer x.id from (Voted b i))) (accepts f)) has_it
 
     -- one whose value isn't held is told the state at the base
     pub accept_old : Begins (known (here_of records service past x).log) past → {fresh : Bool} {after : Draft} → answer_to_accept x.acceptor b i ≡ asked.Accept fresh → i ≤ x.offset → TellsBase service x from before after → EndsWell records gives faults service past x x before after accept
     accept_old begins {fresh} {after} e old t =
         ends_same records gives faults service past x x before after refl node up
         (λ f. after_promise e f
-        ∙ ap (λ (t : Bool). cond t (answer_base x.id from (armed_with f (so_far records service past x before))) (goes e f)) (le-leb i (offset (here_of records service past x).log) (subst (λ (o : ℕ). i ≤ o) u.offset old))
+        ∙ ap (λ t. cond t (answer_base x.id from (armed_with f (so_far records service past x before))) (goes e f)) (le-leb i (offset (here_of records service past x).log) (subst (λ o. i ≤ o) u.offset old))
         ∙ ap (armed_with f) (sym (tells_base records u begins t)))
 
     -- the last acceptance for the instance is at the ballot
@@ -235,19 +235,19 @@ module _ {K : Type 0} {records : K → List (List ℕ)} (gives : K → List ℕ 
           (follows_up gives faults y before mid node up valued tt refl refl h logged_here (le_refl _) (λ n l. refl) z_here)
           (λ f. refl)
           (sends_to records service past z told after from _ s
-          ∙ ap (λ (n : CallHere). send n (answer z.id from (Voted b i)))
+          ∙ ap (λ n. send n (answer z.id from (Voted b i)))
           (follows_to gives faults y before mid node up valued tt refl refl h logged_here (le_refl _) (λ n l. refl) z_here
-          (subst (λ (j : ℕ). Tells mid told (effect.Accepted j b i ∷ followed y.id (role_of y.acceptor y.proposer (is_some y.acting)))) (ap (λ (n : NodeValue K). n.id) h.0.parts) t))
-          ∙ ap (λ (j : ℕ). send (follow x.id (effect.Accepted x.id b i ∷ []) (logged (Accepted b i v) None (so_far records service past x before))) (answer j from (Voted b i))) (ap (λ (n : NodeValue K). n.id) z_here))
+          (subst (λ j. Tells mid told (effect.Accepted j b i ∷ followed y.id (role_of y.acceptor y.proposer (is_some y.acting)))) (ap (λ n. n.id) h.0.parts) t))
+          ∙ ap (λ j. send (follow x.id (effect.Accepted x.id b i ∷ []) (logged (Accepted b i v) None (so_far records service past x before))) (answer j from (Voted b i))) (ap (λ n. n.id) z_here))
         where
           a : AcceptorValue
           a = accepting x.acceptor (record { instance = i; ballot = b; value = v })
 
           z_here : z ≡ record (leaving x) { keeper = y.keeper; acceptor = accepting x.acceptor (record { instance = i; ballot = b; value = v }); known = x.known }
-          z_here = z_is ∙ ap (λ (n : NodeValue K). record (leaving n) { acceptor = accepting n.acceptor (record { instance = i; ballot = b; value = v }) }) h.0.parts
+          z_here = z_is ∙ ap (λ n. record (leaving n) { acceptor = accepting n.acceptor (record { instance = i; ballot = b; value = v }) }) h.0.parts
 
           logged_here : IsLogged service (record x { keeper = y.keeper; acceptor = accepting x.acceptor (record { instance = i; ballot = b; value = v }); known = x.known }) (Accepted b i v ∷ log_of service past (records x.keeper))
           logged_here =
               let l : IsLogged service (record x { acceptor = accepting x.acceptor (record { instance = i; ballot = b; value = v }) }) (Accepted b i v ∷ log_of service past (records x.keeper)) =
-              logged_accepted (logged_of records service past x u) (ballot_fits ballot) (instance_fits there) short (subst (λ (o : ℕ). o < i) u.offset late) in
+              logged_accepted (logged_of records service past x u) (ballot_fits ballot) (instance_fits there) short (subst (λ o. o < i) u.offset late) in
               record { promised = l.promised; accepted = l.accepted; offset_is = l.offset_is; low = l.low; known = l.known; base = l.base; old_base = l.old_base; few = l.few; start = l.start; short = l.short; fits = l.fits; numbers = l.numbers }

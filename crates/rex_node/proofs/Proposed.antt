@@ -98,7 +98,7 @@ module _ {service : Declarations} (good : IsService service) {values : List Valu
       ∙ ap (run service a.recorder.start) c.events ∙ go.first)
 
   mid_within : IsWithin (counts_of a.recorder.state) (counts_of (state_after service (trace_of (values ++ value ∷ []))))
-  mid_within = subst (λ (s : StateValue). IsWithin (counts_of a.recorder.state) (counts_of s)) (sym mid) (λ lane. (runs_rise service go.state _ _ go.rest).rise lane)
+  mid_within = subst (λ s. IsWithin (counts_of a.recorder.state) (counts_of s)) (sym mid) (λ lane. (runs_rise service go.state _ _ go.rest).rise lane)
 
   -- with one event more
   cut_pushed : (e : Event) {after : StateValue} {queue : List Request} {dice : Lcg} → next service a.recorder.state e ≡ Some after
@@ -109,7 +109,7 @@ module _ {service : Declarations} (good : IsService service) {values : List Valu
     events = c.events ∙ sym (below_push _ _ e out);
     others =
         beyond_push _ _ e (not_below _ e mid_within k)
-        ∙ ap (λ (es : List Event). es ++ e ∷ []) c.others
+        ∙ ap (λ es. es ++ e ∷ []) c.others
         ∙ sym (beyond_push _ _ e out);
   }
     where

@@ -48,7 +48,7 @@ on_error P Q (Err e) f h = f h
 
 -- what is told of a proposal
 pub told_same : {id other instance next events : ℕ} → id ≡ other → instance ≡ next → effect.Proposes id instance events ≡ effect.Proposes other next events
-told_same {other} {instance} {events} e f = ap (λ (n : ℕ). effect.Proposes n instance events) e ∙ ap (λ (n : ℕ). effect.Proposes other n events) f
+told_same {other} {instance} {events} e f = ap (λ n. effect.Proposes n instance events) e ∙ ap (λ n. effect.Proposes other n events) f
 
 -- a node without an open proposal leads
 pub idle_leads : (acceptor : AcceptorValue) (o : Option ProposerValue) → IsIdle acceptor o → (p : ProposerValue) × (o ≡ Some p)
@@ -59,8 +59,8 @@ module _ {K : Type 0} (records : K → List (List ℕ)) (gives : K → List ℕ 
   -- a node that is down is kept
   down_kept : {x y : NodeValue K} → IsResting records service past x → IsSame x y → IsDown y → IsResting records service past y
   down_kept {x} {y} node same down = record {
-    id = subst (λ (n : ℕ). (0 < n) × (n ≤ y.nodes)) (sym same.id) (subst (λ (n : ℕ). (0 < x.id) × (x.id ≤ n)) (sym same.nodes) node.id);
-    few = subst (λ (n : ℕ). n ≤ most_nodes) (sym same.nodes) node.few;
+    id = subst (λ n. (0 < n) × (n ≤ y.nodes)) (sym same.id) (subst (λ n. (0 < x.id) × (x.id ≤ n)) (sym same.nodes) node.id);
+    few = subst (λ n. n ≤ most_nodes) (sym same.nodes) node.few;
     up = λ t. absurd (false_or_true t down.down);
     reached = bare_reached service y.offset y.known down.bare;
     decoded = subst (HasDecoded service) (sym same.decoded) node.decoded;
@@ -103,8 +103,8 @@ module _ {K : Type 0} (records : K → List (List ℕ)) (gives : K → List ℕ 
     opens_next : (going : Going) → Opens records gives faults service past told instance value x mid before between going → {p : ProposerValue} → x.proposer ≡ Some p
         → ComesAt going (length x.known + 1) (effect.Proposes x.id (length x.known + 1) events) (lead_of x.acceptor p (is_some x.acting))
     opens_next going h {p} leads =
-        subst (λ (n : ℕ). ComesAt going n (effect.Proposes x.id (length x.known + 1) events) (lead_of x.acceptor p (is_some x.acting))) next
-        (subst (λ (t : Effect). ComesAt going instance t (lead_of x.acceptor p (is_some x.acting))) told_is
+        subst (λ n. ComesAt going n (effect.Proposes x.id (length x.known + 1) events) (lead_of x.acceptor p (is_some x.acting))) next
+        (subst (λ t. ComesAt going instance t (lead_of x.acceptor p (is_some x.acting))) told_is
         (lead_from x (OpensAt going) p leads h (goes (lead_of x.acceptor p (is_some x.acting)))))
 
     -- ---- the append failed
@@ -124,8 +124,8 @@ module _ {K : Type 0} (records : K → List (List ℕ)) (gives : K → List ℕ 
     cut_short (inl s) = inl s
     cut_short (inr b) =
         inr (from_lead x (BreaksAt mid) (λ p leads.
-        subst (λ (n : ℕ). BreaksOff records gives faults service past (whole_of n (effect.Proposes x.id (length x.known + 1) events) (lead_of x.acceptor p (is_some x.acting))) x mid before) next
-        (subst (λ (t : Effect). BreaksOff records gives faults service past (whole_of instance t (lead_of x.acceptor p (is_some x.acting))) x mid before) told_is
+        subst (λ n. BreaksOff records gives faults service past (whole_of n (effect.Proposes x.id (length x.known + 1) events) (lead_of x.acceptor p (is_some x.acting))) x mid before) next
+        (subst (λ t. BreaksOff records gives faults service past (whole_of instance t (lead_of x.acceptor p (is_some x.acting))) x mid before) told_is
         (lead_from x (λ l. (k : CallHere → CallHere) → LosesFirst k → BreaksOff records gives faults service past (λ d. propose x.nodes x.id told d l instance value k) x mid before) p leads b
         (goes (lead_of x.acceptor p (is_some x.acting))) (settle_loses _ x.nodes x.id sv)))))
 
@@ -155,26 +155,26 @@ module _ {K : Type 0} (records : K → List (List ℕ)) (gives : K → List ℕ 
       alone = own_majority node.id proposes
 
       mid_proposer : mid.proposer ≡ Some (proposed p instance)
-      mid_proposer = ap (λ (z : NodeValue K). z.proposer) parts ∙ ap (option_map (λ (q : ProposerValue). proposed q instance)) leads
+      mid_proposer = ap (λ z. z.proposer) parts ∙ ap (option_map (λ q. proposed q instance)) leads
 
       mid_acting : mid.acting ≡ x.acting
-      mid_acting = ap (λ (z : NodeValue K). z.acting) parts
+      mid_acting = ap (λ z. z.acting) parts
 
       mid_acceptor : mid.acceptor ≡ accepting x.acceptor (record { instance = instance; ballot = p.ballot; value = value })
-      mid_acceptor = ap (λ (z : NodeValue K). z.acceptor) parts ∙ ap (λ (o : Option ProposerValue). accept_own o x.acceptor instance value) leads
+      mid_acceptor = ap (λ z. z.acceptor) parts ∙ ap (λ o. accept_own o x.acceptor instance value) leads
 
       -- a majority has promised already
       rests_before : is_candidate p ≡ false
-      rests_before = subst (λ (w : Option ActingValue). HasGoneOn (Some p) (is_some w)) acts (subst (λ (o : Option ProposerValue). HasGoneOn o (is_some x.acting)) leads (node.rests up))
+      rests_before = subst (λ w. HasGoneOn (Some p) (is_some w)) acts (subst (λ o. HasGoneOn o (is_some x.acting)) leads (node.rests up))
 
       rests_between : HasGoneOn mid.proposer (is_some mid.acting)
       rests_between =
-          subst (λ (o : Option ProposerValue). HasGoneOn o (is_some mid.acting)) (sym mid_proposer)
-          (subst (λ (w : Option ActingValue). HasGoneOn (Some (proposed p instance)) (is_some w)) (sym (mid_acting ∙ acts)) (candidate_same p instance ∙ rests_before))
+          subst (λ o. HasGoneOn o (is_some mid.acting)) (sym mid_proposer)
+          (subst (λ w. HasGoneOn (Some (proposed p instance)) (is_some w)) (sym (mid_acting ∙ acts)) (candidate_same p instance ∙ rests_before))
 
       open_or_closed : (t : Bool) → counting.is_majority p.nodes 1 ≡ t → has_open mid.proposer ≡ not t
-      open_or_closed true e = ap has_open (mid_proposer ∙ ap (λ (q : ProposerValue). Some q) (proposed_closed p instance e))
-      open_or_closed false e = ap has_open (mid_proposer ∙ ap (λ (q : ProposerValue). Some q) (proposed_open p instance e))
+      open_or_closed true e = ap has_open (mid_proposer ∙ ap (λ q. Some q) (proposed_closed p instance e))
+      open_or_closed false e = ap has_open (mid_proposer ∙ ap (λ q. Some q) (proposed_open p instance e))
 
       majority_where : {t : Bool} → has_open mid.proposer ≡ not t → counting.is_majority p.nodes 1 ≡ t
       majority_where {t} e = by (counting.is_majority p.nodes 1) t (λ u k. open_or_closed u k) e refl
@@ -203,11 +203,11 @@ module _ {K : Type 0} (records : K → List (List ℕ)) (gives : K → List ℕ 
         where
           role : (here_of records service past mid).role ≡ leading l (Some (proposal_of p.ballot (length x.known + 1) value)) (x.id ∷ []) l.active
           role =
-              ap (λ (c : AcceptorValue). role_of c mid.proposer (is_some mid.acting)) mid_acceptor
-              ∙ ap (λ (q : Option ProposerValue). role_of (accepting x.acceptor (record { instance = instance; ballot = p.ballot; value = value })) q (is_some mid.acting)) mid_proposer
-              ∙ ap (λ (w : Option ActingValue). role_of (accepting x.acceptor (record { instance = instance; ballot = p.ballot; value = value })) (Some (proposed p instance)) (is_some w)) mid_acting
+              ap (λ c. role_of c mid.proposer (is_some mid.acting)) mid_acceptor
+              ∙ ap (λ q. role_of (accepting x.acceptor (record { instance = instance; ballot = p.ballot; value = value })) q (is_some mid.acting)) mid_proposer
+              ∙ ap (λ w. role_of (accepting x.acceptor (record { instance = instance; ballot = p.ballot; value = value })) (Some (proposed p instance)) (is_some w)) mid_acting
               ∙ opened_role x.acceptor p proposes.own (majority_where e)
-              ∙ ap (λ (n : ℕ). leading l (Some (proposal_of p.ballot n value)) (x.id ∷ []) l.active) next
+              ∙ ap (λ n. leading l (Some (proposal_of p.ballot n value)) (x.id ∷ []) l.active) next
 
       -- ---- where the node is a majority by itself, and knows the value
 
@@ -216,7 +216,7 @@ module _ {K : Type 0} (records : K → List (List ℕ)) (gives : K → List ℕ 
         closed_one = record p { open_instance = None; accepted = [] }
 
         mid_closed : mid.proposer ≡ Some closed_one
-        mid_closed = mid_proposer ∙ ap (λ (q : ProposerValue). Some q) (proposed_closed p instance (majority_where closed_now))
+        mid_closed = mid_proposer ∙ ap (λ q. Some q) (proposed_closed p instance (majority_where closed_now))
 
         abbrev left : ℕ
         left = 2 * length l.reported + 2
@@ -234,11 +234,11 @@ module _ {K : Type 0} (records : K → List (List ℕ)) (gives : K → List ℕ 
         learns_next : (going : Going) → Learns records gives faults service past instance value mid y between after going
             → Comes records gives faults service past (decides x.nodes x.seed x.id (is_some x.acting) (length x.known + 1)) (settle left x.nodes sv x.id) mid y between after going
         learns_next going hl =
-            subst (λ (i : ℕ). Comes records gives faults service past (decides x.nodes x.seed x.id (is_some x.acting) i) (settle left x.nodes sv x.id) mid y between after going) next
-            (subst (λ (w : Option ActingValue). Comes records gives faults service past (decides x.nodes x.seed x.id (is_some w) instance) (settle left x.nodes sv x.id) mid y between after going) mid_acting
-            (subst (λ (id : ℕ). Comes records gives faults service past (decides x.nodes x.seed id (is_some mid.acting) instance) (settle left x.nodes sv x.id) mid y between after going) same.id
-            (subst (λ (seed : ℕ). Comes records gives faults service past (decides x.nodes seed mid.id (is_some mid.acting) instance) (settle left x.nodes sv x.id) mid y between after going) same.seed
-            (subst (λ (n : ℕ). Comes records gives faults service past (decides n mid.seed mid.id (is_some mid.acting) instance) (settle left x.nodes sv x.id) mid y between after going) same.nodes
+            subst (λ i. Comes records gives faults service past (decides x.nodes x.seed x.id (is_some x.acting) i) (settle left x.nodes sv x.id) mid y between after going) next
+            (subst (λ w. Comes records gives faults service past (decides x.nodes x.seed x.id (is_some w) instance) (settle left x.nodes sv x.id) mid y between after going) mid_acting
+            (subst (λ id. Comes records gives faults service past (decides x.nodes x.seed id (is_some mid.acting) instance) (settle left x.nodes sv x.id) mid y between after going) same.id
+            (subst (λ seed. Comes records gives faults service past (decides x.nodes seed mid.id (is_some mid.acting) instance) (settle left x.nodes sv x.id) mid y between after going) same.seed
+            (subst (λ n. Comes records gives faults service past (decides n mid.seed mid.id (is_some mid.acting) instance) (settle left x.nodes sv x.id) mid y between after going) same.nodes
             (lead_from mid (LearnsAt going) closed_one mid_closed hl (settle left x.nodes sv x.id))))))
 
         to_decide : LeadsOn records gives faults service (whole_of (length x.known + 1) (effect.Proposes x.id (length x.known + 1) events) l) (decides x.nodes x.seed x.id (is_some x.acting) (length x.known + 1)) x.keeper mid.keeper (so_far records service past x before) (so_far records service past mid between)
@@ -257,11 +257,11 @@ module _ {K : Type 0} (records : K → List (List ℕ)) (gives : K → List ℕ 
             by : LearnsShort records gives faults service past instance value mid y between → IsStuck records gives faults service past (decides x.nodes x.seed x.id (is_some x.acting) (length x.known + 1)) mid y between
             by (inl s) = inl s
             by (inr b) =
-                inr (subst (λ (i : ℕ). BreaksOff records gives faults service past (decides x.nodes x.seed x.id (is_some x.acting) i) mid y between) next
-                (subst (λ (w : Option ActingValue). BreaksOff records gives faults service past (decides x.nodes x.seed x.id (is_some w) instance) mid y between) mid_acting
-                (subst (λ (id : ℕ). BreaksOff records gives faults service past (decides x.nodes x.seed id (is_some mid.acting) instance) mid y between) same.id
-                (subst (λ (seed : ℕ). BreaksOff records gives faults service past (decides x.nodes seed mid.id (is_some mid.acting) instance) mid y between) same.seed
-                (subst (λ (n : ℕ). BreaksOff records gives faults service past (decides n mid.seed mid.id (is_some mid.acting) instance) mid y between) same.nodes
+                inr (subst (λ i. BreaksOff records gives faults service past (decides x.nodes x.seed x.id (is_some x.acting) i) mid y between) next
+                (subst (λ w. BreaksOff records gives faults service past (decides x.nodes x.seed x.id (is_some w) instance) mid y between) mid_acting
+                (subst (λ id. BreaksOff records gives faults service past (decides x.nodes x.seed id (is_some mid.acting) instance) mid y between) same.id
+                (subst (λ seed. BreaksOff records gives faults service past (decides x.nodes seed mid.id (is_some mid.acting) instance) mid y between) same.seed
+                (subst (λ n. BreaksOff records gives faults service past (decides n mid.seed mid.id (is_some mid.acting) instance) mid y between) same.nodes
                 (lead_from mid (λ m. (k : CallHere → CallHere) → LosesFirst k → BreaksOff records gives faults service past (λ d. decide mid.nodes (service_of service mid.seed) mid.id d m instance value k) mid y between) _ mid_closed b
                 (settle left x.nodes sv x.id) (settle_loses left x.nodes x.id sv)))))))
 
@@ -282,22 +282,22 @@ module _ {K : Type 0} (records : K → List (List ℕ)) (gives : K → List ℕ 
             )
           where
             y_proposer : y.proposer ≡ Some (closed closed_one)
-            y_proposer = ap (λ (z : NodeValue K). z.proposer) learned ∙ ap (option_map closed) mid_closed
+            y_proposer = ap (λ z. z.proposer) learned ∙ ap (option_map closed) mid_closed
 
             y_acting : y.acting ≡ Some (settling service a)
-            y_acting = ap (λ (z : NodeValue K). z.acting) learned ∙ ap (option_map (settling service)) (mid_acting ∙ acts)
+            y_acting = ap (λ z. z.acting) learned ∙ ap (option_map (settling service)) (mid_acting ∙ acts)
 
             role : (here_of records service past y).role ≡ Leads (lead_of y.acceptor (closed closed_one) true)
-            role = ap (λ (q : Option ProposerValue). role_of y.acceptor q (is_some y.acting)) y_proposer ∙ ap (λ (w : Option ActingValue). role_of y.acceptor (Some (closed closed_one)) (is_some w)) y_acting
+            role = ap (λ q. role_of y.acceptor q (is_some y.acting)) y_proposer ∙ ap (λ w. role_of y.acceptor (Some (closed closed_one)) (is_some w)) y_acting
 
             rests : HasGoneOn y.proposer (is_some y.acting)
-            rests = subst (λ (q : Option ProposerValue). HasGoneOn q (is_some y.acting)) (sym y_proposer) (subst (λ (w : Option ActingValue). HasGoneOn (Some (closed closed_one)) (is_some w)) (sym y_acting) rests_before)
+            rests = subst (λ q. HasGoneOn q (is_some y.acting)) (sym y_proposer) (subst (λ w. HasGoneOn (Some (closed closed_one)) (is_some w)) (sym y_acting) rests_before)
         ends_learned Down hl learned same_now =
             let o = learns_next Down hl in (
               (
                 leads_fell records gives faults service
                      to_decide
-                    (subst (λ (id : ℕ). Fell records gives faults service (decides x.nodes x.seed x.id (is_some x.acting) (length x.known + 1)) id mid.keeper y.keeper (so_far records service past mid between) (so_far records service past y after)) same.id o.0),
+                    (subst (λ id. Fell records gives faults service (decides x.nodes x.seed x.id (is_some x.acting) (length x.known + 1)) id mid.keeper y.keeper (so_far records service past mid between) (so_far records service past y after)) same.id o.0),
                 o.1,
               ),
               down_kept node (record { id = same_now.id ∙ same.id; nodes = same_now.nodes ∙ same.nodes; seed = same_now.seed ∙ same.seed; decoded = same_now.decoded ∙ same.decoded }) o.1,

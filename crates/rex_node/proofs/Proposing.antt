@@ -64,16 +64,16 @@ module _ {service : Declarations} (a : ActingValue) (h : IsRecorder service a.re
       let live = counts_live limits many in
       record {
         bases = counts_of a.recorder.start;
-        few = subst (λ (n : ℕ). n ≤ most_lanes) (sym (counts_long limits many)) good.lanes;
+        few = subst (λ n. n ≤ most_lanes) (sym (counts_long limits many)) good.lanes;
         long = sym live.long;
         numbered = c.numbered;
         from = live.from;
-        to = subst (λ (cs : List ℕ). IsWithin cs (counts_in a limits)) (sym c.counts) live.to;
+        to = subst (λ cs. IsWithin cs (counts_in a limits)) (sym c.counts) live.to;
       }
 
   pub trace_cut : {live : List Event} {counts : List ℕ} (limits : Option (List ℕ)) → live ≡ a.recorder.live → counts ≡ counts_in a limits → IsService service → AreLimits service limits → IsCutOf live counts
   trace_cut {counts} limits live_is counts_are good many =
-      subst (λ (es : List Event). IsCutOf es counts) (sym live_is) (subst (λ (cs : List ℕ). IsCutOf a.recorder.live cs) (sym counts_are) (counts_cut good limits many))
+      subst (λ es. IsCutOf es counts) (sym live_is) (subst (λ cs. IsCutOf a.recorder.live cs) (sym counts_are) (counts_cut good limits many))
 
 -- ---- a piece
 
@@ -88,7 +88,7 @@ module _ {service : Declarations} (good : IsService service) {values : List Valu
   cut_of = counts_cut a h.recorder good limits many
 
   read : delta_in (value_at cut live) ≡ Ok (delta_at cut live)
-  read = subst (λ (v : Value). delta_in v ≡ Ok (delta_at cut live)) piece.value piece.again
+  read = subst (λ v. delta_in v ≡ Ok (delta_at cut live)) piece.value piece.again
 
   -- what it proposes is faithful, and runs on after what is known
   pub piece_faithful : (seed : ℕ) → is_faithful service seed values (cut_in a limits) a.recorder.live ≡ true
@@ -98,7 +98,7 @@ module _ {service : Declarations} (good : IsService service) {values : List Valu
 
   pub piece_fits : values_fit service (values ++ p.value ∷ []) ≡ true
   piece_fits =
-      subst (λ (v : Value). values_fit service (values ++ v ∷ []) ≡ true) (sym piece.value)
+      subst (λ v. values_fit service (values ++ v ∷ []) ≡ true) (sym piece.value)
       (and_parts (values_fit service (values ++ value_at cut live ∷ [])) (same_events (events_of (value_at cut live)) (below cut live)) (piece_faithful 0)).0
 
   consistent : IsConsistent live cut
@@ -119,7 +119,7 @@ module _ {service : Declarations} (good : IsService service) {values : List Valu
 
   others : still_live service (values ++ p.value ∷ []) live ≡ beyond cut live
   others =
-      ap (λ (s : StateValue). beyond (counts_of s) live) mid
+      ap (λ s. beyond (counts_of s) live) mid
       ∙ beyond_same service _ go.state _ cut live go.first go.rest
 
   within : IsWithin (counts_of a.recorder.state) cut
@@ -128,5 +128,5 @@ module _ {service : Declarations} (good : IsService service) {values : List Valu
   -- it is a cut of what is executed
   pub piece_cut : IsCutAt service values (record a { proposed = p.cut.counts }) p.value
   piece_cut =
-      subst (λ (c : List ℕ). IsCutAt service values (record a { proposed = c }) p.value) (sym piece.cut_is)
+      subst (λ c. IsCutAt service values (record a { proposed = c }) p.value) (sym piece.cut_is)
       (record { consistent = consistent; within = within; events = events; others = others })

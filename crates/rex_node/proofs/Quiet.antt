@@ -68,7 +68,7 @@ module _ {V S : Type 0} (n : ℕ) (sv : Service V S) (me : ℕ) (replies : (befo
   say_well {e} {d} h o = record { armed = h.armed; quiet = quiet_both d.effects _ h.quiet (quiet_one o) }
 
   append_well : {a : Option Failure} {r : Rec V S} (d : Call V S) (k : Call V S → Call V S) → a ≡ None → IsWell (k (logged r None d)) → IsWell (append a me r d k)
-  append_well {r} d k e h = subst (λ (b : Option Failure). IsWell (append b me r d k)) (sym e) h
+  append_well {r} d k e h = subst (λ b. IsWell (append b me r d k)) (sym e) h
 
   propose_well : {told : Effect} {d : Call V S} (l : Lead V) (i : ℕ) (v : V) {k : Call V S → Call V S} → Other told → IsWell d → Goes k → IsWell (propose n me told d l i v k)
   propose_well {told} {d} l i v o h g = append_well d _ h.armed (g _ (record { armed = refl; quiet = quiet_both d.effects _ h.quiet (quiet_one o) }))

@@ -32,14 +32,14 @@ still_reached service offset None longer front h = tt
 still_reached service offset (Some r) longer front h = record {
   all_held = h.all_held;
   among = le_trans h.among longer;
-  runs = ap (λ (vs : List Value). run service (start_of service) (trace_of vs)) (front r.count h.among) ∙ h.runs;
+  runs = ap (λ vs. run service (start_of service) (trace_of vs)) (front r.count h.among) ∙ h.runs;
 }
 
 -- ---- a node that comes up again
 
 -- a node that forgot none knows what it holds
 all_known : (past : List Value) {offset : ℕ} {held : List Value} → offset ≡ 0 → first offset past ++ held ≡ held
-all_known past {held} e = ap (λ (n : ℕ). first n past ++ held) e
+all_known past {held} e = ap (λ n. first n past ++ held) e
 
 pub again_reached : {K : Type 0} (service : Declarations) (past : List Value) (x : NodeValue K) (said : Recovered) {o : Option ReachedValue} → KeepsReached x said o → HasReached service x.offset (knows past x) x.reached
     → HasReached service said.offset (first said.offset past ++ said.known) o
@@ -51,11 +51,11 @@ again_reached service past x said (inr (same, alike)) h = subst (HasReached serv
     by (Some r) (zero_is, (among, front)) h =
         let here : first said.offset past ++ said.known ≡ said.known = all_known past zero_is in record {
           all_held = zero_is;
-          among = subst (λ (vs : List Value). r.count ≤ length vs) (sym here) among;
+          among = subst (λ vs. r.count ≤ length vs) (sym here) among;
           runs =
-              ap (λ (vs : List Value). run service (start_of service) (trace_of (take r.count vs))) here
-              ∙ ap (λ (vs : List Value). run service (start_of service) (trace_of vs)) front
-              ∙ ap (λ (vs : List Value). run service (start_of service) (trace_of (take r.count vs))) (sym (all_known past h.all_held))
+              ap (λ vs. run service (start_of service) (trace_of (take r.count vs))) here
+              ∙ ap (λ vs. run service (start_of service) (trace_of vs)) front
+              ∙ ap (λ vs. run service (start_of service) (trace_of (take r.count vs))) (sym (all_known past h.all_held))
               ∙ h.runs;
         }
 
@@ -66,4 +66,4 @@ reached_beside service past others x h = by x.reached h
   where
     by : (r : Option ReachedValue) → HasReached service x.offset (knows past x) r → HasReached service x.offset (knows others x) r
     by None h = tt
-    by (Some r) h = subst (λ (vs : List Value). IsReached service x.offset vs r) (all_known past h.all_held ∙ sym (all_known others h.all_held)) h
+    by (Some r) h = subst (λ vs. IsReached service x.offset vs r) (all_known past h.all_held ∙ sym (all_known others h.all_held)) h

@@ -51,7 +51,7 @@ module _ (service : Declarations) (past : List Value) where
       let most = at_most rest log in
       let front = at_most before [] in
       let long = length-append before (bytes ∷ rest) in
-      subst (λ (l : List (Rec Value StateValue)). length l < length (before ++ bytes ∷ rest)) (sym is) (omega arith)
+      subst (λ l. length l < length (before ++ bytes ∷ rest)) (sym is) (omega arith)
 
   -- where all are read, none is bad
   pub not_refused : (kept : List (List ℕ)) (number at : ℕ) → AreRead service past kept → IsFirstBad kept number at → ⊥
@@ -60,11 +60,11 @@ module _ (service : Declarations) (past : List Value) where
       let front = take n kept in
       let bytes = slice_index_or kept n [] in
       let rest = drop (suc n) kept in
-      let parts : kept ≡ front ++ bytes ∷ rest = sym (take-append-drop n kept) ∙ ap (λ (bs : List (List ℕ)). front ++ bs) (drop-cons kept n [] h.there) in
+      let parts : kept ≡ front ++ bytes ∷ rest = sym (take-append-drop n kept) ∙ ap (λ bs. front ++ bs) (drop-cons kept n [] h.there) in
       let bad : record_in (standing_in (log_of service past front)) bytes ≡ Err at =
-      subst (λ (s : Standing). record_in s bytes ≡ Err at) (stands_behind service past h.spelled) h.bad in
+      subst (λ s. record_in s bytes ≡ Err at) (stands_behind service past h.spelled) h.bad in
       let less = fewer front bytes rest at bad in
-      let same : length (log_of service past (front ++ bytes ∷ rest)) ≡ length (front ++ bytes ∷ rest) = subst (λ (lists : List (List ℕ)). AreRead service past lists) parts all in
+      let same : length (log_of service past (front ++ bytes ∷ rest)) ≡ length (front ++ bytes ∷ rest) = subst (λ lists. AreRead service past lists) parts all in
       absurd (omega arith)
 
 module _ (service : Declarations) where
@@ -101,7 +101,7 @@ module _ (service : Declarations) where
   no_bad offset (r ∷ rs) n stated fit =
       let states = and_parts (is_stated service (record_bytes r)) (list_all (is_stated service) (map record_bytes rs)) stated in
       let values = fit_parts (durable.value_above offset r) (durable.known_above offset rs) fit in
-      ap (λ (o : Option ℕ). place_or n o (first_bad service offset (suc n) rs)) (holds_good offset r rs states.0 values.0) ∙ no_bad offset rs (suc n) states.1 values.1
+      ap (λ o. place_or n o (first_bad service offset (suc n) rs)) (holds_good offset r rs states.0 values.0) ∙ no_bad offset rs (suc n) states.1 values.1
 
   -- what is past the first values fits, too
   fits_past : (n : ℕ) (vs : List Value) → list_all (spells service) vs ≡ true → list_all (spells service) (drop n vs) ≡ true
@@ -114,8 +114,8 @@ module _ (service : Declarations) where
   good_read past {kept} {place} stated fit h =
       let said = recovered_says service past h.spelled refl in
       let values : list_all (spells service) (durable.known h.rs) ≡ true =
-      ap (λ (vs : List Value). list_all (spells service) vs) said.held ∙ fits_past (durable.offset h.rs) (known (log_of service past kept)) fit in
-      let states : list_all (is_stated service) (map record_bytes h.rs) ≡ true = subst (λ (lists : List (List ℕ)). AreStated service lists) h.spelled.bytes stated in
+      ap (λ vs. list_all (spells service) vs) said.held ∙ fits_past (durable.offset h.rs) (known (log_of service past kept)) fit in
+      let states : list_all (is_stated service) (map record_bytes h.rs) ≡ true = subst (λ lists. AreStated service lists) h.spelled.bytes stated in
       absurd (some_none place (sym h.first ∙ no_bad _ h.rs 1 states values))
     where
       some_none : (p : Place) → Some p ≡ None → ⊥

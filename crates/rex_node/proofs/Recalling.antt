@@ -23,8 +23,8 @@ module _ (service : Declarations) (past : List Value) where
   -- what was recovered from lists of bytes is what they say
   pub recovered_says : {lists : List (List ℕ)} {rs : List KeptRec} {x : Recovered} → Spell lists rs → x ≡ recovered rs → Says service x (log_of service past lists)
   recovered_says {rs} {x} h e =
-      subst (λ (bs : List (List ℕ)). Says service x (log_of service past bs)) (sym h.bytes)
-      (subst (λ (y : Recovered). Says service y (log_of service past (map record_bytes rs))) (sym e) (records_say service past rs h.records).0)
+      subst (λ bs. Says service x (log_of service past bs)) (sym h.bytes)
+      (subst (λ y. Says service y (log_of service past (map record_bytes rs))) (sym e) (records_say service past rs h.records).0)
 
   -- ---- the version of the last checkpoint
 
@@ -43,7 +43,7 @@ module _ (service : Declarations) (past : List Value) where
     pub old_is : ends_old rs ≡ has_old_base (log_of service past (map record_bytes rs))
 
   says_old : {rs : List KeptRec} → AreRecords rs → (k : ℕ) → k ≤ length rs → SaysOld (take k rs)
-  says_old {rs} h zero le = subst (λ (xs : List KeptRec). SaysOld xs) (sym (nothing rs)) (record { front = front_none service past; old_is = refl })
+  says_old {rs} h zero le = subst (λ xs. SaysOld xs) (sym (nothing rs)) (record { front = front_none service past; old_is = refl })
     where
       nothing : (xs : List KeptRec) → take zero xs ≡ []
       nothing [] = refl
@@ -56,12 +56,12 @@ module _ (service : Declarations) (past : List Value) where
       let said = says_old h k (omega arith) in
       let counts = counts_front rs h k (omega arith) in
       let follows = h.each k d there in
-      subst (λ (xs : List KeptRec). SaysOld xs) (sym (take_one_more rs k d there))
+      subst (λ xs. SaysOld xs) (sym (take_one_more rs k d there))
       (record {
         front = front_more service past before r counts follows said.front;
         old_is =
             fold_push old_in _ before r ∙ old_more _ r said.old_is
-            ∙ ap (λ (log : List (Rec Value StateValue)). has_old_base log) (sym (log_front service past before r counts follows said.front));
+            ∙ ap (λ log. has_old_base log) (sym (log_front service past before r counts follows said.front));
       })
 
   all_say_old : {rs : List KeptRec} → AreRecords rs → SaysOld rs
@@ -69,10 +69,10 @@ module _ (service : Declarations) (past : List Value) where
 
   -- the last checkpoint is in the old version where the records say so
   pub old_base_is : {lists : List (List ℕ)} {rs : List KeptRec} → Spell lists rs → ends_old rs ≡ has_old_base (log_of service past lists)
-  old_base_is {rs} h = subst (λ (bs : List (List ℕ)). ends_old rs ≡ has_old_base (log_of service past bs)) (sym h.bytes) (all_say_old h.records).old_is
+  old_base_is {rs} h = subst (λ bs. ends_old rs ≡ has_old_base (log_of service past bs)) (sym h.bytes) (all_say_old h.records).old_is
 
   -- ---- where the next record stands
 
   pub stands_behind : {lists : List (List ℕ)} {rs : List KeptRec} → Spell lists rs → standing rs ≡ standing_in (log_of service past lists)
   stands_behind {rs} h =
-      subst (λ (bs : List (List ℕ)). standing rs ≡ standing_in (log_of service past bs)) (sym h.bytes) (stands_there service past rs (counts_all rs h.records) (all_say_old h.records).front)
+      subst (λ bs. standing rs ≡ standing_in (log_of service past bs)) (sym h.bytes) (stands_there service past rs (counts_all rs h.records) (all_say_old h.records).front)

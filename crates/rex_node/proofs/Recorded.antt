@@ -56,7 +56,7 @@ module _ {K : Type 0} {records : K → List (List ℕ)} (gives : K → List ℕ 
     pub recorded_down : Appends records faults gives x y before mid (record_bytes r) Down
         → (Fell records gives faults service whole x.id x.keeper y.keeper (so_far records service past x before) (so_far records service past y mid) × IsDown y) × IsResting records service past y
     recorded_down h = (
-      (appended_fell records gives faults service past x y before mid spelling due stated is u.base plain h, record { down = ap (λ (n : NodeValue K). n.up) h.0.parts; bare = ap (λ (n : NodeValue K). n.reached) h.0.parts }),
+      (appended_fell records gives faults service past x y before mid spelling due stated is u.base plain h, record { down = ap (λ n. n.up) h.0.parts; bare = ap (λ n. n.reached) h.0.parts }),
       subst (IsResting records service past) (sym h.0.parts) (record { id = node.id; few = node.few; up = λ t. absurd (false≢true t); reached = tt; decoded = node.decoded; rests = λ t. absurd (false≢true t) }),
     )
 
@@ -65,8 +65,8 @@ module _ {K : Type 0} {records : K → List (List ℕ)} (gives : K → List ℕ 
     recorded_stuck h loses {z} keeper based =
         inr (breaks_here y z mid (appended_leads records gives faults service past x y before mid spelling due stated is h)
         (omega (arith, ap length h.0.records, length_push (records x.keeper) (record_bytes r)))
-        (based ∙ ap (λ (n : NodeValue K). n.base) h.0.parts ∙ u.base ∙ sym plain
-        ∙ ap base (sym (ap (λ (j : K). log_of service past (records j)) keeper ∙ appended_log records gives faults service past x y before mid spelling due stated h)))
+        (based ∙ ap (λ n. n.base) h.0.parts ∙ u.base ∙ sym plain
+        ∙ ap base (sym (ap (λ j. log_of service past (records j)) keeper ∙ appended_log records gives faults service past x y before mid spelling due stated h)))
         loses (ap records keeper) (ap faults keeper) (inl keeper))
 
     -- or the call ends with the record
@@ -85,9 +85,9 @@ module _ {K : Type 0} {records : K → List (List ℕ)} (gives : K → List ℕ 
       where
         last : Leads records gives faults service k (λ d. d) y.keeper z.keeper (so_far records service past y mid) (so_far records service past z after)
         last =
-            subst (λ (j : K). Leads records gives faults service k (λ d. d) y.keeper j (so_far records service past y mid) (so_far records service past z after)) (sym keeper)
-            (leads_same records gives faults service (ap (λ (j : K). length (log_of service past (records j))) keeper)
-            (λ f. ap (λ (d : CallHere). k (armed_with f d)) (appended_here records gives faults service past x y before mid spelling due stated h) ∙ arms f ∙ ap (armed_with f) (sym e)))
+            subst (λ j. Leads records gives faults service k (λ d. d) y.keeper j (so_far records service past y mid) (so_far records service past z after)) (sym keeper)
+            (leads_same records gives faults service (ap (λ j. length (log_of service past (records j))) keeper)
+            (λ f. ap (λ d. k (armed_with f d)) (appended_here records gives faults service past x y before mid spelling due stated h) ∙ arms f ∙ ap (armed_with f) (sym e)))
 
   -- ---- the node leaves its role then
 
@@ -100,19 +100,19 @@ module _ {K : Type 0} {records : K → List (List ℕ)} (gives : K → List ℕ 
     follows_node = subst (IsResting records service past) (sym z_is) (follower_node node up (appended_log records gives faults service past x y before mid spelling due stated h) plain logged_here more front)
 
     pub follows_up : z.up ≡ true
-    follows_up = ap (λ (n : NodeValue K). n.up) z_is ∙ up
+    follows_up = ap (λ n. n.up) z_is ∙ up
 
     pub follows_keeper : z.keeper ≡ y.keeper
-    follows_keeper = ap (λ (n : NodeValue K). n.keeper) z_is
+    follows_keeper = ap (λ n. n.keeper) z_is
 
     -- it has told what it did, and that it follows
     pub follows_to : {after : Draft} {cause : Effect} → Tells mid after (cause ∷ followed y.id (role_of y.acceptor y.proposer (is_some y.acting)))
         → so_far records service past z after ≡ follow x.id (cause ∷ []) (logged one None (so_far records service past x before))
     follows_to {after} {cause} t =
         far records service past z after
-        (t.effects_are ∙ ap (λ (es : List Effect). es ++ (cause ∷ followed y.id (role_of y.acceptor y.proposer (is_some y.acting)))) h.1
-        ∙ ap (λ (n : NodeValue K). before.effects.items ++ (cause ∷ followed n.id (role_of n.acceptor n.proposer (is_some n.acting)))) h.0.parts)
+        (t.effects_are ∙ ap (λ es. es ++ (cause ∷ followed y.id (role_of y.acceptor y.proposer (is_some y.acting)))) h.1
+        ∙ ap (λ n. before.effects.items ++ (cause ∷ followed n.id (role_of n.acceptor n.proposer (is_some n.acting)))) h.0.parts)
         (ap (map (message_in past)) (t.sends_are ∙ h.2))
-        ∙ ap (λ (n : Here). call_at n (map (message_in past) before.sends.items) (before.effects.items ++ (cause ∷ followed x.id (role_of x.acceptor x.proposer (is_some x.acting)))))
+        ∙ ap (λ n. call_at n (map (message_in past) before.sends.items) (before.effects.items ++ (cause ∷ followed x.id (role_of x.acceptor x.proposer (is_some x.acting)))))
         (ap (here_of records service past) z_is
         ∙ follower_here node up (appended_log records gives faults service past x y before mid spelling due stated h) plain logged_here more front (map (message_in past) before.sends.items) before.effects.items)

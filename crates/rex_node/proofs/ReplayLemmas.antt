@@ -37,14 +37,14 @@ module _ {K : Type 0} {records : K → List (List ℕ)} {service : Declarations}
 
     pub rest_runs_to : {rest : List Value} → rest ≡ drop count x.known → run service from (trace_of rest) ≡ run service (start_of service) (trace_of x.known)
     rest_runs_to rest_is =
-        ap (λ (vs : List Value). run service from (trace_of vs)) rest_is
+        ap (λ vs. run service from (trace_of vs)) rest_is
         ∙ sym (run-then service (start_of service) from (trace_of (take count x.known)) _ from_runs)
         ∙ ap (run service (start_of service)) (sym (trace_both (take count x.known) (drop count x.known)) ∙ ap trace_of (take-append-drop count x.known))
 
     pub rest_runs : {rest : List Value} → rest ≡ drop count x.known → IsSome (run service from (trace_of rest))
     rest_runs {rest} rest_is =
         let r = fits_run service x.known (node.up up).fits in
-        subst (λ (o : Option StateValue). IsSome o) (sym (rest_runs_to rest_is ∙ r.1)) refl
+        subst (λ o. IsSome o) (sym (rest_runs_to rest_is ∙ r.1)) refl
 
 -- ---- all that the node knows was replayed
 
@@ -65,10 +65,10 @@ module _ {K : Type 0} {records : K → List (List ℕ)} (gives : K → List ℕ 
     stated = refl;
     many = omega arith;
     is =
-        ap (λ (t : Bool). replay_if t) idle
-        ∙ ap (λ (k : ℕ). record { node = record h { replayed = k }; sends = []; effects = Replayed x.id k ∷ [] }) (sym here)
-        ∙ ap (λ (ms : List _). record { node = record h { replayed = n }; sends = map (message_in past) ms; effects = Replayed x.id n ∷ [] }) (sym sends)
-        ∙ ap (λ (es : List Effect). record { node = record h { replayed = n }; sends = map (message_in past) step.sends; effects = es }) (sym effects);
+        ap (λ t. replay_if t) idle
+        ∙ ap (λ k. record { node = record h { replayed = k }; sends = []; effects = Replayed x.id k ∷ [] }) (sym here)
+        ∙ ap (λ ms. record { node = record h { replayed = n }; sends = map (message_in past) ms; effects = Replayed x.id n ∷ [] }) (sym sends)
+        ∙ ap (λ es. record { node = record h { replayed = n }; sends = map (message_in past) step.sends; effects = es }) (sym effects);
   })
     where
       h : Here
@@ -84,13 +84,13 @@ module _ {K : Type 0} {records : K → List (List ℕ)} (gives : K → List ℕ 
 
       idle : (is_active (here_of records service past x).role || (x.replayed == length (known (here_of records service past x).log))) ≡ false
       idle =
-          ap (λ (t : Bool). t || (x.replayed == length (known (here_of records service past x).log))) (role_active service x.known x.acceptor _ x.acting u.acting ∙ ap (λ (w : Option ActingValue). is_some w) none)
-          ∙ ap (λ (k : ℕ). x.replayed == k) (sym here) ∙ old
+          ap (λ t. t || (x.replayed == length (known (here_of records service past x).log))) (role_active service x.known x.acceptor _ x.acting u.acting ∙ ap (λ w. is_some w) none)
+          ∙ ap (λ k. x.replayed == k) (sym here) ∙ old
 
   pub replay_stays : run service (start_of service) (trace_of x.known) ≡ Some s → StaysResting records service past x after_replay
   replay_stays runs = record {
     same = record { id = refl; nodes = refl; seed = refl; decoded = refl };
-    kept = record { id = node.id; few = node.few; up = λ t. up_after; reached = now_reached service x.offset x.base x.known (subst (λ (k : ℕ). k ≤ length x.known) (sym n_is) (le_refl (length x.known))) (ap (λ (vs : List Value). run service (start_of service) (trace_of vs)) whole ∙ runs); decoded = node.decoded; rests = node.rests };
+    kept = record { id = node.id; few = node.few; up = λ t. up_after; reached = now_reached service x.offset x.base x.known (subst (λ k. k ≤ length x.known) (sym n_is) (le_refl (length x.known))) (ap (λ vs. run service (start_of service) (trace_of vs)) whole ∙ runs); decoded = node.decoded; rests = node.rests };
   }
     where
       l : IsLogged service x (log_of service past (records x.keeper))
@@ -106,9 +106,9 @@ module _ {K : Type 0} {records : K → List (List ℕ)} (gives : K → List ℕ 
       up_after = up_of records service past _
           (record { promised = l.promised; accepted = l.accepted; offset_is = l.offset_is; low = l.low; known = l.known; base = l.base; old_base = l.old_base; few = l.few; start = l.start; short = l.short; fits = l.fits; numbers = l.numbers })
           (record {
-            based = subst (λ (k : ℕ). x.base ≤ k) (sym n_is) l.few;
-            replayed = subst (λ (k : ℕ). k ≤ length x.known) (sym n_is) (le_refl (length x.known));
-            ahead = λ _. ap (λ (vs : List Value). run service (start_of service) (trace_of vs)) whole ∙ runs;
+            based = subst (λ k. x.base ≤ k) (sym n_is) l.few;
+            replayed = subst (λ k. k ≤ length x.known) (sym n_is) (le_refl (length x.known));
+            ahead = λ _. ap (λ vs. run service (start_of service) (trace_of vs)) whole ∙ runs;
             caught_up = λ _. n_is;
             proposer = b.proposer;
             acting = b.acting;

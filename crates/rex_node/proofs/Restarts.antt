@@ -44,19 +44,19 @@ module _ {service : Declarations} {log : List (Rec Value StateValue)} {x : Recov
     where
       by : (snapshot : Option (List ℕ)) → saved_in service snapshot ≡ base_state log → IsSaved service snapshot start → HasSnapshot x.base snapshot
           → run service (start_of service) (trace_of (take x.base (known log))) ≡ Some start
-      by None e s none = ap (λ (n : ℕ). run service (start_of service) (trace_of (take n (known log)))) none ∙ ap Some (sym s)
+      by None e s none = ap (λ n. run service (start_of service) (trace_of (take n (known log)))) none ∙ ap Some (sym s)
       by (Some bytes) e s some =
           let r : start ≡ state_after service (trace_of (take (base log) (known log))) = (right start (sym e ∙ saved_is service bytes s)).1 in
           let same : state_after service (trace_of (take (base log) (known log))) ≡ state_after service (trace_of (take x.base (known log))) =
-          ap (λ (n : ℕ). state_after service (trace_of (take n (known log)))) (sym says.base) in
+          ap (λ n. state_after service (trace_of (take n (known log)))) (sym says.base) in
           let f = front_runs service x.base _ fit in
           f.1 ∙ ap Some (sym (state_is service _ f.0 f.1) ∙ sym (r ∙ same))
 
 -- the first values of the past, and those that are held, are all that the records know
 whole_is : {service : Declarations} (past : List Value) {log : List (Rec Value StateValue)} {x : Recovered} → Says service x log → HasForgotten past log → first x.offset past ++ x.known ≡ known log
 whole_is past {log} {x} says forgotten =
-    let front : first x.offset past ≡ take x.offset (known log) = subst (λ (o : ℕ). first o past ≡ take o (known log)) (sym says.offset) forgotten in
-    ap (λ (vs : List Value). vs ++ x.known) front ∙ ap (λ (vs : List Value). take x.offset (known log) ++ vs) says.held ∙ take-append-drop x.offset (known log)
+    let front : first x.offset past ≡ take x.offset (known log) = subst (λ o. first o past ≡ take o (known log)) (sym says.offset) forgotten in
+    ap (λ vs. vs ++ x.known) front ∙ ap (λ vs. take x.offset (known log) ++ vs) says.held ∙ take-append-drop x.offset (known log)
 
 -- ---- the snapshot that was decoded
 
@@ -68,7 +68,7 @@ last_decoded service (Some d) before h k = h
 -- ---- the node
 
 short_values : {promised : ℕ} (ps : List Kept) → All (MayBeAccepted promised) ps → All (λ (p : Kept). IsValue p.value) ps
-short_values {promised} ps h = All-weaker (MayBeAccepted promised) (λ (p : Kept). IsValue p.value) (λ p k. k.proposal.value) ps h
+short_values {promised} ps h = All-weaker (MayBeAccepted promised) (λ p. IsValue p.value) (λ p k. k.proposal.value) ps h
 
 module _ {K : Type 0} (records : K → List (List ℕ)) {service : Declarations} (past : List Value) (before : NodeValue K) {x : Recovered} {start : StateValue} {old : Bool} (reached : Option ReachedValue) (decoded : Option DecodedValue) (h : IsRecalled service (records before.keeper) x start old) where
   abbrev log : List (Rec Value StateValue)
@@ -83,13 +83,13 @@ module _ {K : Type 0} (records : K → List (List ℕ)) {service : Declarations}
   -- each part is what was read
   as_recovered : IsAsRecovered service (recovered h.found.read.rs) up_again
   as_recovered = record {
-    promised = ap (λ (y : Recovered). y.promised) h.found.read.is;
-    accepted = ap (λ (y : Recovered). y.accepted) h.found.read.is;
-    offset_is = ap (λ (y : Recovered). y.offset) h.found.read.is;
-    known_are = ap (λ (y : Recovered). y.known) h.found.read.is;
-    base_is = ap (λ (y : Recovered). y.base) h.found.read.is;
-    start = subst (λ (y : Recovered). IsSaved service y.snapshot start) h.found.read.is h.start_is;
-    replayed = ap (λ (y : Recovered). y.base) h.found.read.is;
+    promised = ap (λ y. y.promised) h.found.read.is;
+    accepted = ap (λ y. y.accepted) h.found.read.is;
+    offset_is = ap (λ y. y.offset) h.found.read.is;
+    known_are = ap (λ y. y.known) h.found.read.is;
+    base_is = ap (λ y. y.base) h.found.read.is;
+    start = subst (λ y. IsSaved service y.snapshot start) h.found.read.is h.start_is;
+    replayed = ap (λ y. y.base) h.found.read.is;
     ahead = refl;
     proposer = refl;
     acting = refl;
@@ -104,7 +104,7 @@ module _ {K : Type 0} (records : K → List (List ℕ)) {service : Declarations}
     good = record { rs = h.found.read.rs; spelled = h.found.read.spelled; first = h.found.good };
     recovered_is = as_recovered;
     old_is = h.old_is;
-    node = ap (λ (n : ℕ). record (here_of records service past up_again) { replayed = n }) said.base;
+    node = ap (λ n. record (here_of records service past up_again) { replayed = n }) said.base;
   }
 
   module _ (fit : values_fit service (known log) ≡ true) (right : HasRightBase service log) (forgotten : HasForgotten past log) where
@@ -112,7 +112,7 @@ module _ {K : Type 0} (records : K → List (List ℕ)) {service : Declarations}
     all_known = whole_is past said forgotten
 
     runs_there : run service (start_of service) (trace_of (take x.base (first x.offset past ++ x.known))) ≡ Some start
-    runs_there = subst (λ (vs : List Value). run service (start_of service) (trace_of (take x.base vs)) ≡ Some start) (sym all_known) (start_runs start said fit right h.start_is h.found.read.fits.snapshot)
+    runs_there = subst (λ vs. run service (start_of service) (trace_of (take x.base vs)) ≡ Some start) (sym all_known) (start_runs start said fit right h.start_is h.found.read.fits.snapshot)
 
     node_up : IsUp service (whole past up_again) (here_of records service past up_again)
     node_up = record {
@@ -125,8 +125,8 @@ module _ {K : Type 0} (records : K → List (List ℕ)) {service : Declarations}
       old_base = h.old_is ∙ old_base_is service past h.found.read.spelled;
       start = runs_there;
       replayed = record {
-        based = subst (λ (n : ℕ). n ≤ x.base) said.base (omega arith);
-        replayed = subst (λ (n : ℕ). x.base ≤ n) said.count h.found.read.fits.base;
+        based = subst (λ n. n ≤ x.base) said.base (omega arith);
+        replayed = subst (λ n. x.base ≤ n) said.count h.found.read.fits.base;
       };
       ahead = λ _. runs_there;
       caught_up = λ t. absurd (false≢true t);
@@ -134,7 +134,7 @@ module _ {K : Type 0} (records : K → List (List ℕ)) {service : Declarations}
       proposer = tt;
       acting = tt;
       stamped = tt;
-      fits = subst (λ (vs : List Value). values_fit service vs ≡ true) (sym all_known) fit;
+      fits = subst (λ vs. values_fit service vs ≡ true) (sym all_known) fit;
       numbers = record { log = said.fits; role = tt };
     }
 

@@ -53,8 +53,8 @@ module _ {K : Type 0} (records : K → List (List ℕ)) {service : Declarations}
   replayed_runs_with : (w : Option ActingValue) → x.acting ≡ w → run service (start_of service) (trace_of (take x.replayed x.known)) ≡ Some (replayed_with w (state_of x))
   replayed_runs_with None e = u.ahead e
   replayed_runs_with (Some a) e =
-      ap (λ (n : ℕ). run service (start_of service) (trace_of (take n x.known))) (u.caught_up (ap (λ (w : Option ActingValue). is_some w) e))
-      ∙ ap (λ (vs : List Value). run service (start_of service) (trace_of vs)) (take_all (length x.known) x.known (omega arith))
+      ap (λ n. run service (start_of service) (trace_of (take n x.known))) (u.caught_up (ap (λ w. is_some w) e))
+      ∙ ap (λ vs. run service (start_of service) (trace_of vs)) (take_all (length x.known) x.known (omega arith))
       ∙ (executes service x.known x.acceptor _ x.acting a u.acting e).known
 
   -- the values that were replayed lead to it
@@ -70,7 +70,7 @@ spelled_first p (suc n) (v ∷ vs) h = let q = and_parts (p v) (list_all p vs) h
 front_fits : (service : Declarations) (n : ℕ) (vs : List Value) → values_fit service vs ≡ true → values_fit service (take n vs) ≡ true
 front_fits service n vs h =
     let q = and_parts (list_all (spells service) vs) (runs service (trace_of vs)) h in
-    and_from _ _ (spelled_first _ n vs q.0) (ap (λ (o : Option StateValue). is_some o) (front_runs service n vs h).1)
+    and_from _ _ (spelled_first _ n vs q.0) (ap (λ o. is_some o) (front_runs service n vs h).1)
 
 -- the state after the first values is within the limits
 pub front_limited : {K : Type 0} (records : K → List (List ℕ)) {service : Declarations} (past : List Value) {x : NodeValue K} → IsUp service x (here_of records service past x) → IsService service → IsChecked service → {n : ℕ} → n ≤ length x.known → {s : StateValue}
@@ -78,9 +78,9 @@ pub front_limited : {K : Type 0} (records : K → List (List ℕ)) {service : De
 front_limited records {service} past {x} u good checked {n} le {s} runs =
     let l = values_limited service _ s good checked (front_fits service n x.known u.fits) (omega (arith, le, (logged_of records service past x u).numbers.few, ap length u.known, length-take-le n x.known le)) runs in
     record {
-      lanes = All-weaker (λ (lane : Lane). lane.done ≤ 268431360) HasFewEvents (λ lane h. record { few = h }) s.lanes l.lanes;
+      lanes = All-weaker (λ lane. lane.done ≤ 268431360) HasFewEvents (λ lane h. record { few = h }) s.lanes l.lanes;
       nobody = l.nobody;
-      entries = All-weaker (λ (e : Entry). (e.sequence ≤ 1000000) × (e.sequence ≡ 0 → e.reply ≡ None)) EntryFits (λ e h. record { few = h.0; none = h.1 }) s.clients l.entries;
+      entries = All-weaker (λ e. (e.sequence ≤ 1000000) × (e.sequence ≡ 0 → e.reply ≡ None)) EntryFits (λ e h. record { few = h.0; none = h.1 }) s.clients l.entries;
     }
 
 -- ---- refusals
@@ -100,13 +100,13 @@ free h e = by (h.replayed == base h.log) (nat_lt 0 (length h.work.live)) refl re
   where
     by : (s t : Bool) → (h.replayed == base h.log) ≡ s → nat_lt 0 (length h.work.live) ≡ t
         → (h.up ≡ true) × (◌≡◌ {A = Option Refusal} (if h.replayed == base h.log then Some why.Nothing else if nat_lt 0 (length h.work.live) then Some (why.Live (length h.work.live)) else None) None) → IsFree h
-    by true t a b r = absurd (let w : Some why.Nothing ≡ None = sym (ap (λ (s : Bool). if s then Some why.Nothing else if nat_lt 0 (length h.work.live) then Some (why.Live (length h.work.live)) else None) a) ∙ r.1 in cc)
+    by true t a b r = absurd (let w : Some why.Nothing ≡ None = sym (ap (λ s. if s then Some why.Nothing else if nat_lt 0 (length h.work.live) then Some (why.Live (length h.work.live)) else None) a) ∙ r.1 in cc)
     by false true a b r =
         absurd
         (let w : Some (why.Live (length h.work.live)) ≡ None =
         sym
-        (ap (λ (s : Bool). if s then Some why.Nothing else if nat_lt 0 (length h.work.live) then Some (why.Live (length h.work.live)) else None) a
-        ∙ ap (λ (t : Bool). if t then Some (why.Live (length h.work.live)) else None) b)
+        (ap (λ s. if s then Some why.Nothing else if nat_lt 0 (length h.work.live) then Some (why.Live (length h.work.live)) else None) a
+        ∙ ap (λ t. if t then Some (why.Live (length h.work.live)) else None) b)
         ∙ r.1 in cc)
     by false false a b r = record { up = r.0; old = a; idle = b }
 
@@ -161,29 +161,29 @@ module _ {K : Type 0} (records : K → List (List ℕ)) (gives : K → List ℕ 
   spelling = subst HasSpelling (sym rec.is) (record { in_range = (record { first = omega (arith, more); last = omega (arith, few, (logged_of records service past x u).numbers.few, ap length u.known) }, rec.short) })
 
   is_due : IsDue (standing_in log) r
-  is_due = subst (IsDue (standing_in log)) (sym rec.is) (subst (λ (o : ℕ). o ≤ x.replayed) u.offset (omega (arith, u.low, based)), subst (λ (vs : List Value). x.replayed ≤ length vs) u.known few)
+  is_due = subst (IsDue (standing_in log)) (sym rec.is) (subst (λ o. o ≤ x.replayed) u.offset (omega (arith, u.low, based)), subst (λ vs. x.replayed ≤ length vs) u.known few)
 
   stated : is_stated service (record_bytes r) ≡ true
-  stated = ap (λ (m : KeptRec). is_stated service (record_bytes m)) rec.is ∙ ap (λ (q : Result StateValue ℕ). is_ok q) rec.spells
+  stated = ap (λ m. is_stated service (record_bytes m)) rec.is ∙ ap (λ q. is_ok q) rec.spells
 
   rec_is : rec_of service past r ≡ said
   rec_is =
-      ap (rec_of service past) rec.is ∙ ap (λ (q : Result StateValue ℕ). Checkpoint (version_in rec.snapshot) x.replayed (read_state service q)) rec.spells
-      ∙ ap (λ (v : Version). Checkpoint v x.replayed s) rec.version_is
+      ap (rec_of service past) rec.is ∙ ap (λ q. Checkpoint (version_in rec.snapshot) x.replayed (read_state service q)) rec.spells
+      ∙ ap (λ v. Checkpoint v x.replayed s) rec.version_is
 
   log_saved : {lists : List (List ℕ)} → lists ≡ records x.keeper ++ record_bytes r ∷ [] → log_of service past lists ≡ said ∷ log
-  log_saved e = ap (log_of service past) e ∙ log_then service past (records x.keeper) r spelling is_due ∙ ap (λ (m : Rec Value StateValue). m ∷ log) rec_is
+  log_saved e = ap (log_of service past) e ∙ log_then service past (records x.keeper) r spelling is_due ∙ ap (λ m. m ∷ log) rec_is
 
   state_now : state_after service (trace_of (take x.replayed (known log))) ≡ s
   state_now =
-      ap (λ (vs : List Value). state_after service (trace_of (take x.replayed vs))) (sym u.known)
+      ap (λ vs. state_after service (trace_of (take x.replayed vs))) (sym u.known)
       ∙ state_is service _ _ (replayed_runs records past u) ∙ sym s_is
 
   -- the model appends the state
   appends : (g : Option Failure) → call (armed_with g (begin h)) ≡ append g x.id said (armed_with g (begin h)) (say (effect.Checkpointed x.id x.replayed))
   appends g =
-      ap (λ (t : Bool). checkpoint_if t (nat_lt 0 (length h.work.live)) (state_after service (trace_of (take x.replayed (known log))))) f.old
-      ∙ ap (λ (t : Bool). checkpoint_if false t (state_after service (trace_of (take x.replayed (known log))))) f.idle
+      ap (λ t. checkpoint_if t (nat_lt 0 (length h.work.live)) (state_after service (trace_of (take x.replayed (known log))))) f.old
+      ∙ ap (λ t. checkpoint_if false t (state_after service (trace_of (take x.replayed (known log))))) f.idle
       ∙ ap (checkpoint_if false false) state_now
     where
       checkpoint_if : Bool → Bool → StateValue → CallHere
@@ -200,10 +200,10 @@ module _ {K : Type 0} (records : K → List (List ℕ)) (gives : K → List ℕ 
 
       comes : say (effect.Checkpointed x.id x.replayed) (logged said None (begin h)) ≡ call_of records service past y step
       comes =
-          ap (λ (l : List (Rec Value StateValue)). call_at (record h { log = l }) [] (effect.Checkpointed x.id x.replayed ∷ [])) (sym log_is)
-          ∙ ap (λ (n : NodeValue K). call_at (here_of records service past n) [] (effect.Checkpointed x.id x.replayed ∷ [])) (sym k.parts)
-          ∙ ap (λ (es : List Effect). call_at (here_of records service past y) [] es) (sym effects)
-          ∙ ap (λ (ms : List _). call_at (here_of records service past y) (map (message_in past) ms) step.effects) (sym sends)
+          ap (λ l. call_at (record h { log = l }) [] (effect.Checkpointed x.id x.replayed ∷ [])) (sym log_is)
+          ∙ ap (λ n. call_at (here_of records service past n) [] (effect.Checkpointed x.id x.replayed ∷ [])) (sym k.parts)
+          ∙ ap (λ es. call_at (here_of records service past y) [] es) (sym effects)
+          ∙ ap (λ ms. call_at (here_of records service past y) (map (message_in past) ms) step.effects) (sym sends)
 
       pub saved_does : Does records gives faults service past call x y step
       saved_does =
@@ -258,18 +258,18 @@ module _ {K : Type 0} (records : K → List (List ℕ)) (gives : K → List ℕ 
 
       downs : call_of records service past y step ≡ record { node = down_node (if k.kept then said ∷ log else log) None; sends = []; effects = effect.Down x.id ∷ [] }
       downs =
-          ap (λ (ms : List _). call_at (here_of records service past y) (map (message_in past) ms) step.effects) sends
-          ∙ ap (λ (es : List Effect). call_at (here_of records service past y) [] es) effects
-          ∙ ap (λ (n : NodeValue K). call_at (here_of records service past n) [] (effect.Down x.id ∷ [])) k.parts
-          ∙ ap (λ (l : List (Rec Value StateValue)). call_at (record (here_of records service past (fallen_with k.kept x)) { log = l }) [] (effect.Down x.id ∷ [])) (log_in k.kept k.records_are)
-          ∙ ap (λ (b : ℕ). call_at (record (here_of records service past (fallen_with k.kept x)) { log = if k.kept then said ∷ log else log; replayed = b }) [] (effect.Down x.id ∷ [])) (base_in k.kept)
+          ap (λ ms. call_at (here_of records service past y) (map (message_in past) ms) step.effects) sends
+          ∙ ap (λ es. call_at (here_of records service past y) [] es) effects
+          ∙ ap (λ n. call_at (here_of records service past n) [] (effect.Down x.id ∷ [])) k.parts
+          ∙ ap (λ l. call_at (record (here_of records service past (fallen_with k.kept x)) { log = l }) [] (effect.Down x.id ∷ [])) (log_in k.kept k.records_are)
+          ∙ ap (λ b. call_at (record (here_of records service past (fallen_with k.kept x)) { log = if k.kept then said ∷ log else log; replayed = b }) [] (effect.Down x.id ∷ [])) (base_in k.kept)
 
       pub fell_does : Does records gives faults service past call x y step
       fell_does =
           inr (fell_append records gives faults service appends x.keeper y.keeper stated k.kept k.answer k.records_are k.faults_are downs).fails
 
       pub fell_down : EndsDown x.id (faults x.keeper) (faults y.keeper) y.up step
-      fell_down = record { down = λ l. ap last_of effects; only = λ e. k.faults_are; quiet = λ l. sends; falls = λ l. ap (λ (n : NodeValue K). n.up) k.parts }
+      fell_down = record { down = λ l. ap last_of effects; only = λ e. k.faults_are; quiet = λ l. sends; falls = λ l. ap (λ n. n.up) k.parts }
 
       pub fell_stays : StaysResting records service past x y
       fell_stays = subst (StaysResting records service past x) (sym k.parts) (record {

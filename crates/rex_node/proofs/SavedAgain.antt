@@ -53,7 +53,7 @@ old_there h e = by (has_old_base h.log) refl (refused_none h.up e)
   where
     by : (b : Bool) → has_old_base h.log ≡ b → (h.up ≡ true) × (◌≡◌ {A = Option Refusal} (if has_old_base h.log then None else Some why.Nothing) None) → IsOld h
     by true a r = record { up = r.0; old = a }
-    by false a r = absurd (let w : Some why.Nothing ≡ None = sym (ap (λ (s : Bool). if s then None else Some why.Nothing) a) ∙ r.1 in cc)
+    by false a r = absurd (let w : Some why.Nothing ≡ None = sym (ap (λ s. if s then None else Some why.Nothing) a) ∙ r.1 in cc)
 
 -- ---- the state at the base
 
@@ -97,35 +97,35 @@ module _ {K : Type 0} (records : K → List (List ℕ)) (gives : K → List ℕ 
   few = (logged_of records service past x u).few
 
   some : 0 < x.base
-  some = subst (λ (n : ℕ). 0 < n) (sym u.base) (old_based service past (records x.keeper) f.old)
+  some = subst (λ n. 0 < n) (sym u.base) (old_based service past (records x.keeper) f.old)
 
   pub spelling : HasSpelling r
   spelling = subst HasSpelling (sym rec.is) (record { in_range = (record { first = omega (arith, some); last = omega (arith, few, (logged_of records service past x u).numbers.few, ap length u.known) }, rec.short) })
 
   pub is_due : IsDue (standing_in log) r
-  is_due = subst (IsDue (standing_in log)) (sym rec.is) (subst (λ (o : ℕ). o ≤ x.base) u.offset (omega (arith, u.low)), subst (λ (vs : List Value). x.base ≤ length vs) u.known few)
+  is_due = subst (IsDue (standing_in log)) (sym rec.is) (subst (λ o. o ≤ x.base) u.offset (omega (arith, u.low)), subst (λ vs. x.base ≤ length vs) u.known few)
 
   stated : is_stated service (record_bytes r) ≡ true
-  stated = ap (λ (m : KeptRec). is_stated service (record_bytes m)) rec.is ∙ ap (λ (q : Result StateValue ℕ). is_ok q) rec.spells
+  stated = ap (λ m. is_stated service (record_bytes m)) rec.is ∙ ap (λ q. is_ok q) rec.spells
 
   rec_is : rec_of service past r ≡ said
   rec_is =
-      ap (rec_of service past) rec.is ∙ ap (λ (q : Result StateValue ℕ). Checkpoint (version_in rec.snapshot) x.base (read_state service q)) rec.spells
-      ∙ ap (λ (v : Version). Checkpoint v x.base x.start) rec.version_is
+      ap (rec_of service past) rec.is ∙ ap (λ q. Checkpoint (version_in rec.snapshot) x.base (read_state service q)) rec.spells
+      ∙ ap (λ v. Checkpoint v x.base x.start) rec.version_is
 
   log_saved : {lists : List (List ℕ)} → lists ≡ records x.keeper ++ record_bytes r ∷ [] → log_of service past lists ≡ said ∷ log
-  log_saved e = ap (log_of service past) e ∙ log_then service past (records x.keeper) r spelling is_due ∙ ap (λ (m : Rec Value StateValue). m ∷ log) rec_is
+  log_saved e = ap (log_of service past) e ∙ log_then service past (records x.keeper) r spelling is_due ∙ ap (λ m. m ∷ log) rec_is
 
   state_now : state_after service (trace_of (take x.base (known log))) ≡ x.start
   state_now =
-      ap (λ (vs : List Value). state_after service (trace_of (take x.base vs))) (sym u.known)
+      ap (λ vs. state_after service (trace_of (take x.base vs))) (sym u.known)
       ∙ state_is service _ x.start u.start
 
   -- the model appends the state
   appends : (g : Option Failure) → call (armed_with g (begin h)) ≡ append g x.id said (armed_with g (begin h)) (say (effect.Migrated x.id x.base))
   appends g =
-      ap (λ (t : Bool). migrate_if t (base log) (state_after service (trace_of (take (base log) (known log))))) f.old
-      ∙ ap (λ (n : ℕ). migrate_if true n (state_after service (trace_of (take n (known log))))) (sym u.base)
+      ap (λ t. migrate_if t (base log) (state_after service (trace_of (take (base log) (known log))))) f.old
+      ∙ ap (λ n. migrate_if true n (state_after service (trace_of (take n (known log))))) (sym u.base)
       ∙ ap (migrate_if true x.base) state_now
     where
       migrate_if : Bool → ℕ → StateValue → CallHere
@@ -139,10 +139,10 @@ module _ {K : Type 0} (records : K → List (List ℕ)) (gives : K → List ℕ 
 
       comes : say (effect.Migrated x.id x.base) (logged said None (begin h)) ≡ call_of records service past y step
       comes =
-          ap (λ (l : List (Rec Value StateValue)). call_at (record h { log = l }) [] (effect.Migrated x.id x.base ∷ [])) (sym log_is)
-          ∙ ap (λ (n : NodeValue K). call_at (here_of records service past n) [] (effect.Migrated x.id x.base ∷ [])) (sym k.parts)
-          ∙ ap (λ (es : List Effect). call_at (here_of records service past y) [] es) (sym effects)
-          ∙ ap (λ (ms : List _). call_at (here_of records service past y) (map (message_in past) ms) step.effects) (sym sends)
+          ap (λ l. call_at (record h { log = l }) [] (effect.Migrated x.id x.base ∷ [])) (sym log_is)
+          ∙ ap (λ n. call_at (here_of records service past n) [] (effect.Migrated x.id x.base ∷ [])) (sym k.parts)
+          ∙ ap (λ es. call_at (here_of records service past y) [] es) (sym effects)
+          ∙ ap (λ ms. call_at (here_of records service past y) (map (message_in past) ms) step.effects) (sym sends)
 
       pub migrated_does : Does records gives faults service past call x y step
       migrated_does =
@@ -207,18 +207,18 @@ module _ {K : Type 0} (records : K → List (List ℕ)) (gives : K → List ℕ 
 
       downs : call_of records service past y step ≡ record { node = down_node (if k.kept then said ∷ log else log) None; sends = []; effects = effect.Down x.id ∷ [] }
       downs =
-          ap (λ (ms : List _). call_at (here_of records service past y) (map (message_in past) ms) step.effects) sends
-          ∙ ap (λ (es : List Effect). call_at (here_of records service past y) [] es) effects
-          ∙ ap (λ (n : NodeValue K). call_at (here_of records service past n) [] (effect.Down x.id ∷ [])) k.parts
-          ∙ ap (λ (l : List (Rec Value StateValue)). call_at (record (here_of records service past (fallen x)) { log = l }) [] (effect.Down x.id ∷ [])) (log_in k.kept k.records)
-          ∙ ap (λ (b : ℕ). call_at (record (here_of records service past (fallen x)) { log = if k.kept then said ∷ log else log; replayed = b }) [] (effect.Down x.id ∷ [])) (base_in k.kept)
+          ap (λ ms. call_at (here_of records service past y) (map (message_in past) ms) step.effects) sends
+          ∙ ap (λ es. call_at (here_of records service past y) [] es) effects
+          ∙ ap (λ n. call_at (here_of records service past n) [] (effect.Down x.id ∷ [])) k.parts
+          ∙ ap (λ l. call_at (record (here_of records service past (fallen x)) { log = l }) [] (effect.Down x.id ∷ [])) (log_in k.kept k.records)
+          ∙ ap (λ b. call_at (record (here_of records service past (fallen x)) { log = if k.kept then said ∷ log else log; replayed = b }) [] (effect.Down x.id ∷ [])) (base_in k.kept)
 
       pub fell_does : Does records gives faults service past call x y step
       fell_does =
           inr (fell_append records gives faults service appends x.keeper y.keeper stated k.kept k.answer k.records k.faults downs).fails
 
       pub fell_down : EndsDown x.id (faults x.keeper) (faults y.keeper) y.up step
-      fell_down = record { down = λ l. ap last_of effects; only = λ e. k.faults; quiet = λ l. sends; falls = λ l. ap (λ (n : NodeValue K). n.up) k.parts }
+      fell_down = record { down = λ l. ap last_of effects; only = λ e. k.faults; quiet = λ l. sends; falls = λ l. ap (λ n. n.up) k.parts }
 
       pub fell_stays : StaysResting records service past x y
       fell_stays = subst (StaysResting records service past x) (sym k.parts) (record {

@@ -13,7 +13,7 @@ use Rattle.rex_cluster.specs.Values.{Value, events_of, read_delta}
 
 -- a kind that is told to reply to the client does
 told : {client : ℕ} (kind : Kind) → is_reply_to client kind ≡ true → (value : ℤ) × (kind ≡ Reply client value)
-told {client} (Reply c value) t = (value, ap (λ (n : ℕ). Reply n value) (eqb-true c client t))
+told {client} (Reply c value) t = (value, ap (λ n. Reply n value) (eqb-true c client t))
 told _ t = absurd (false≢true t)
 
 not_told : {client : ℕ} {kind : Kind} (b : Bool) → is_reply_to client kind ≡ b → ((value : ℤ) → kind ≡ Reply client value → ⊥) → b ≡ false

@@ -42,13 +42,13 @@ last_push client n (u ∷ us) v =
 -- it is the last one of the later values, or else that of the earlier ones
 last_append : (client n : ℕ) (us vs : List Value) → last_reply client n (us ++ vs) ≡ max (last_reply client n us) (last_reply client (n + length us) vs)
 last_append client n [] vs =
-    let from : last_reply client n vs ≡ last_reply client (n + 0) vs = ap (λ (k : ℕ). last_reply client k vs) (let m : n ≡ n + 0 = omega arith in m) in
+    let from : last_reply client n vs ≡ last_reply client (n + 0) vs = ap (λ k. last_reply client k vs) (let m : n ≡ n + 0 = omega arith in m) in
     let alone : last_reply client (n + 0) vs ≡ max 0 (last_reply client (n + 0) vs) = omega arith in
     from ∙ alone
 last_append client n (u ∷ us) vs =
     ap (max (cond (replies_to client (events_of u)) n 0)) (last_append client (suc n) us vs)
     ∙ one (cond (replies_to client (events_of u)) n 0) (last_reply client (suc n) us) (last_reply client (suc n + length us) vs)
-    ∙ ap (λ (k : ℕ). max (last_reply client n (u ∷ us)) (last_reply client k vs)) (let m : suc n + length us ≡ n + suc (length us) = omega arith in m)
+    ∙ ap (λ k. max (last_reply client n (u ∷ us)) (last_reply client k vs)) (let m : suc n + length us ≡ n + suc (length us) = omega arith in m)
   where
     one : (a b c : ℕ) → max a (max b c) ≡ max (max a b) c
     one a b c = omega arith
@@ -57,7 +57,7 @@ last_append client n (u ∷ us) vs =
 
 module _ {values : List Value} {a : AnswersValue} (h : NumbersReplies values a) (few : length values < 65535) (v : Value) where
   next : next_number a.count ≡ suc (length values)
-  next = ap next_number h.count ∙ ap (λ (t : Bool). cond t (suc (length values)) (length values)) (lt-ltb (length values) 4294967295 (omega (arith, few)))
+  next = ap next_number h.count ∙ ap (λ t. cond t (suc (length values)) (length values)) (lt-ltb (length values) 4294967295 (omega (arith, few)))
 
   stamp_next : {client : ℕ} → client ≤ 256 → (t : Bool) → 0 < unwrap_or (cond t (Some (suc (length values))) (stamp_of a client)) 0
       → unwrap_or (cond t (Some (suc (length values))) (stamp_of a client)) 0 ≡ max (last_reply client 1 values) (cond t (1 + length values) 0)
@@ -69,15 +69,15 @@ module _ {values : List Value} {a : AnswersValue} (h : NumbersReplies values a) 
     clients = numbered_long (next_number a.count) a.numbers (events_of v) ∙ h.clients;
     count = next ∙ sym (length_push values v);
     stamps = λ client l some.
-        ap (λ (o : Option ℕ). unwrap_or o 0) (told client l)
-        ∙ stamp_next l _ (subst (λ (o : Option ℕ). 0 < unwrap_or o 0) (told client l) some)
+        ap (λ o. unwrap_or o 0) (told client l)
+        ∙ stamp_next l _ (subst (λ o. 0 < unwrap_or o 0) (told client l) some)
         ∙ sym (last_push client 1 values v);
   }
     where
       told : (client : ℕ) → client ≤ 256 → stamp_of (noting a (events_of v)) client ≡ cond (replies_to client (events_of v)) (Some (suc (length values))) (stamp_of a client)
       told client l =
           noted_number _ client a.numbers (events_of v) (let many = h.clients in omega (arith, l, many))
-          ∙ ap (λ (k : ℕ). cond (replies_to client (events_of v)) (Some k) (stamp_of a client)) next
+          ∙ ap (λ k. cond (replies_to client (events_of v)) (Some k) (stamp_of a client)) next
 
 -- ---- a node that is active from here on
 
@@ -95,7 +95,7 @@ stamped_in {values} {clients} many = record {
 
     none : (client : ℕ) → client ≤ 256 → 0 < unwrap_or (stamp_of (answers_at clients (length values)) client) 0 → ⊥
     none client l some =
-        let z = ap (λ (o : Option ℕ). unwrap_or o 0) (state_stamp clients client (omega (arith, l, many))) ∙ zero_of (entry_at clients client).reply in
+        let z = ap (λ o. unwrap_or o 0) (state_stamp clients client (omega (arith, l, many))) ∙ zero_of (entry_at clients client).reply in
         omega (arith, some, z)
 
 -- ---- the values that are held
@@ -108,7 +108,7 @@ held_last {offset} values client low =
     let parts : last_reply client 1 values ≡ max (last_reply client 1 (take offset values)) (last_reply client (suc offset) (drop offset values)) =
     ap (last_reply client 1) (sym (take-append-drop offset values))
     ∙ last_append client 1 (take offset values) (drop offset values)
-    ∙ ap (λ (k : ℕ). max (last_reply client 1 (take offset values)) (last_reply client k (drop offset values))) (let m : 1 + length (take offset values) ≡ suc offset = omega (arith, long) in m) in
+    ∙ ap (λ k. max (last_reply client 1 (take offset values)) (last_reply client k (drop offset values))) (let m : 1 + length (take offset values) ≡ suc offset = omega (arith, long) in m) in
     omega (arith, long, most, parts)
 
 -- ---- values looked at from the last one back
@@ -125,7 +125,7 @@ abbrev pub IsSilent : ℕ → ℕ → List Value → ℕ → Type 0
 IsSilent client offset values n = last_reply client (suc offset + n) (drop n values) ≡ 0
 
 rest_silent : (client offset : ℕ) (values : List Value) (i : ℕ) → IsSilent client offset values (suc i) → last_reply client (suc (suc offset + i)) (drop (suc i) values) ≡ 0
-rest_silent client offset values i silent = ap (λ (k : ℕ). last_reply client k (drop (suc i) values)) (let m : suc (suc offset + i) ≡ suc offset + suc i = omega arith in m) ∙ silent
+rest_silent client offset values i silent = ap (λ k. last_reply client k (drop (suc i) values)) (let m : suc (suc offset + i) ≡ suc offset + suc i = omega arith in m) ∙ silent
 
 -- the last one that replies
 pub found_last : (client offset : ℕ) (values : List Value) {i : ℕ} (d : Value) → i < length values → replies_to client (events_of (slice_index_or values i d)) ≡ true → IsSilent client offset values (suc i) → suc (offset + i) ≡ last_held offset values client
@@ -135,9 +135,9 @@ found_last client offset values {i} d l some silent =
     let rest : last_reply client (suc (suc offset + i)) (drop (suc i) values) ≡ 0 = rest_silent client offset values i silent in
     let from : last_reply client (suc offset + i) (drop i values) ≡ max (suc offset + i) (last_reply client (suc (suc offset + i)) (drop (suc i) values)) =
     first_or_rest client (suc offset + i) values i d l
-    ∙ ap (λ (t : Bool). max (cond t (suc offset + i) 0) (last_reply client (suc (suc offset + i)) (drop (suc i) values))) some in
+    ∙ ap (λ t. max (cond t (suc offset + i) 0) (last_reply client (suc (suc offset + i)) (drop (suc i) values))) some in
     let parts : last_reply client (suc offset) values ≡ max (last_reply client (suc offset) (take i values)) (last_reply client (suc offset + i) (drop i values)) =
     ap (last_reply client (suc offset)) (sym (take-append-drop i values))
     ∙ last_append client (suc offset) (take i values) (drop i values)
-    ∙ ap (λ (k : ℕ). max (last_reply client (suc offset) (take i values)) (last_reply client (suc offset + k) (drop i values))) before in
+    ∙ ap (λ k. max (last_reply client (suc offset) (take i values)) (last_reply client (suc offset + k) (drop i values))) before in
     omega (arith, before, most, rest, from, parts)

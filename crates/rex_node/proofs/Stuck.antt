@@ -32,7 +32,7 @@ module _ {V S : Type 0} (n : ℕ) (sv : Service V S) (me : ℕ) where
   if_keeps false d e f h k = k
 
   lost : (d : Call V S) {armed : Option Failure} → armed ≡ Some (After 0 false) → (r : Rec V S) (k : Call V S → Call V S) → Keeps d (append armed me r d k)
-  lost d e r k = ap (λ (o : Option Failure). (append o me r d k).node.log) e
+  lost d e r k = ap (λ o. (append o me r d k).node.log) e
 
   choose_loses : (d : Call V S) → d.node.armed ≡ Some (After 0 false) → (l : Lead V) (i : ℕ) (o : Option (Proposal V)) (k : Call V S → Call V S) → Keeps d (choose n sv me d l i o k)
   choose_loses d e l i None k = refl
@@ -65,13 +65,13 @@ module _ {K : Type 0} (records : K → List (List ℕ)) (gives : K → List ℕ 
     written = h.written ++ k.written;
     some = omega (arith, k.some, length-append h.written k.written);
     between = k.between;
-    grown = k.grown ∙ ap (λ (l : List (List ℕ)). l ++ k.written) h.grown ∙ append_assoc (records a) h.written k.written;
+    grown = k.grown ∙ ap (λ l. l ++ k.written) h.grown ∙ append_assoc (records a) h.written k.written;
     appends = (chained gives).more a b k.between h.written k.written (Ok tt) h.appends k.appends;
     short = k.short;
     counted = k.counted ∙ h.counted;
     stated = stated_both service h.written k.written h.stated k.stated;
     many = both h.written k.written _ h.many k.many;
-    is = ap (λ (f : Option Failure). (whole (armed_with f d)).node.log) (sym (later_count h.written k.written)) ∙ ap (λ (f : CallHere). f.node.log) (h.comes (Some (After (length k.written) false))) ∙ k.is;
+    is = ap (λ f. (whole (armed_with f d)).node.log) (sym (later_count h.written k.written)) ∙ ap (λ f. f.node.log) (h.comes (Some (After (length k.written) false))) ∙ k.is;
   }
 
   -- memory was short once more records were there
@@ -87,11 +87,11 @@ module _ {K : Type 0} (records : K → List (List ℕ)) (gives : K → List ℕ 
     counted = counted ∙ h.counted;
     stated = h.stated;
     many = ap length log_is ∙ h.many;
-    is = ap (λ (f : Option Failure). (whole (armed_with f d)).node.log) (sym (last h.written)) ∙ ap (λ (f : CallHere). f.node.log) (h.comes (Some (After 0 false))) ∙ loses e ∙ sym log_is;
+    is = ap (λ f. (whole (armed_with f d)).node.log) (sym (last h.written)) ∙ ap (λ f. f.node.log) (h.comes (Some (After 0 false))) ∙ loses e ∙ sym log_is;
   }
     where
       last : (written : List (List ℕ)) → later written (Some (After 0 false)) ≡ Some (After (length written) false)
-      last written = later_count written [] ∙ ap (λ (l : List (List ℕ)). Some (After (length l) false)) (append-nil written)
+      last written = later_count written [] ∙ ap (λ l. Some (After (length l) false)) (append-nil written)
 
 module _ {K : Type 0} {records : K → List (List ℕ)} {gives : K → List ℕ → Answer → K → Type 0} {faults : K → ℕ} {service : Declarations} {past : List Value} {whole rest : CallHere → CallHere} {x : NodeValue K} (y z : NodeValue K) {before : Draft} (mid : Draft)
     (leads : LeadsOn records gives faults service whole rest x.keeper y.keeper (so_far records service past x before) (so_far records service past y mid)) where
@@ -112,7 +112,7 @@ module _ {K : Type 0} {records : K → List (List ℕ)} {gives : K → List ℕ 
 
   -- so it is where the rest of it is stuck
   pub breaks_after : length (records x.keeper) < length (records y.keeper) → y.base ≡ base (log_of service past (records y.keeper)) → LosesFirst rest → IsStuck records gives faults service past rest y z mid → BreaksOff records gives faults service past whole x z before
-  breaks_after longer based loses (inl s) = breaks_here longer (ap (λ (n : NodeValue K). n.base) s.parts ∙ based ∙ ap (λ (kept : List (List ℕ)). base (log_of service past kept)) (sym s.records)) loses s.records s.faults s.short
+  breaks_after longer based loses (inl s) = breaks_here longer (ap (λ n. n.base) s.parts ∙ based ∙ ap (λ kept. base (log_of service past kept)) (sym s.records)) loses s.records s.faults s.short
   breaks_after longer based loses (inr b) = breaks_later b
 
 -- a call that is the same breaks off where this one does
@@ -125,8 +125,8 @@ breaks_as {records} {gives} {faults} {service} {past} {whole} {same} {x} {z} {be
 pub breaks_kept : {K : Type 0} {records : K → List (List ℕ)} {gives : K → List ℕ → Answer → K → Type 0} {faults : K → ℕ} {service : Declarations} {past : List Value} {whole : CallHere → CallHere} {x y z : NodeValue K} {before : Draft}
     → z.keeper ≡ y.keeper → z.base ≡ y.base → BreaksOff records gives faults service past whole x y before → BreaksOff records gives faults service past whole x z before
 breaks_kept {records} {gives} {faults} {service} {past} {whole} {x} {before} keeper based h = record {
-  stops = subst (λ (k : _). StopsShort records gives faults service whole x.keeper k (so_far records service past x before) (log_of service past (records k))) (sym keeper) h.stops;
-  based = based ∙ h.based ∙ ap (λ (k : _). base (log_of service past (records k))) (sym keeper);
+  stops = subst (λ k. StopsShort records gives faults service whole x.keeper k (so_far records service past x before) (log_of service past (records k))) (sym keeper) h.stops;
+  based = based ∙ h.based ∙ ap (λ k. base (log_of service past (records k))) (sym keeper);
 }
 
 -- nothing has changed

@@ -36,7 +36,7 @@ module _ {K : Type 0} (records : K → List (List ℕ)) (gives : K → List ℕ 
 
   pub settles_as : {x y : NodeValue K} (turns : ℕ) → IsSame x y → settles y turns ≡ settles x turns
   settles_as {x} {y} turns h =
-      ap (λ (n : ℕ). settle turns n (service_of service y.seed) y.id) h.nodes ∙ ap (λ (n : ℕ). settle turns x.nodes (service_of service n) y.id) h.seed ∙ ap (λ (n : ℕ). settle turns x.nodes (service_of service x.seed) n) h.id
+      ap (λ n. settle turns n (service_of service y.seed) y.id) h.nodes ∙ ap (λ n. settle turns x.nodes (service_of service n) y.id) h.seed ∙ ap (λ n. settle turns x.nodes (service_of service x.seed) n) h.id
 
   pub gone_none : {turns : ℕ} {x : NodeValue K} {before : Draft} → IsKept records service past x → x.up ≡ true → IsFree x.proposer (is_some x.acting) → MayGoOn x turns → RunsOn service (settles x turns) (so_far records service past x before) → faults x.keeper < 2 ^ 64 - 1 → GoneOn turns turns x x before before
   gone_none {turns} {x} {before} kept up free may runs count = record {
@@ -54,21 +54,21 @@ module _ {K : Type 0} (records : K → List (List ℕ)) (gives : K → List ℕ 
     first_leads : {rest : CallHere → CallHere} → Leads records gives faults service (settles y left) rest y.keeper z.keeper (so_far records service past y mid) (so_far records service past z after) → Leads records gives faults service (settles x turns) rest x.keeper z.keeper (so_far records service past x before) (so_far records service past z after)
     first_leads {rest} k =
         leads_then records gives faults service h.comes.0
-        (subst (λ (whole : CallHere → CallHere). Leads records gives faults service whole rest y.keeper z.keeper (so_far records service past y mid) (so_far records service past z after)) (settles_as left h.same) k)
+        (subst (λ whole. Leads records gives faults service whole rest y.keeper z.keeper (so_far records service past y mid) (so_far records service past z after)) (settles_as left h.same) k)
 
     pub gone_again : GoesRound records gives faults service past left y z mid after Again → GoneOn turns (left - 2) x z before after
     gone_again k = record {
-      comes = (first_leads (subst (λ (rest : CallHere → CallHere). Leads records gives faults service (settles y left) rest y.keeper z.keeper (so_far records service past y mid) (so_far records service past z after)) (settles_as _ h.same) k.0.0), k.0.1, k.0.2);
+      comes = (first_leads (subst (λ rest. Leads records gives faults service (settles y left) rest y.keeper z.keeper (so_far records service past y mid) (so_far records service past z after)) (settles_as _ h.same) k.0.0), k.0.1, k.0.2);
       same = same_then h.same same;
       free = k.2;
       may = k.1;
-      runs = subst (λ (rest : CallHere → CallHere). RunsOn service rest (so_far records service past z after)) (sym (settles_as _ same)) (rest_runs past y z mid after k.0.0 h.runs);
-      count = subst (λ (n : ℕ). n < 2 ^ 64 - 1) (sym k.0.0.counted) h.count;
+      runs = subst (λ rest. RunsOn service rest (so_far records service past z after)) (sym (settles_as _ same)) (rest_runs past y z mid after k.0.0 h.runs);
+      count = subst (λ n. n < 2 ^ 64 - 1) (sym k.0.0.counted) h.count;
       moved = inr (longer h.moved k.4);
     }
       where
         longer : (y ≡ x) ⊎ (length (records x.keeper) < length (records y.keeper)) → length (records y.keeper) < length (records z.keeper) → length (records x.keeper) < length (records z.keeper)
-        longer (inl e) l = subst (λ (n : NodeValue K). length (records n.keeper) < length (records z.keeper)) e l
+        longer (inl e) l = subst (λ n. length (records n.keeper) < length (records z.keeper)) e l
         longer (inr m) l = omega (arith, m, l)
 
     pub gone_done : (going : Going) → GoesRound records gives faults service past left y z mid after (Done going) → Ends records gives faults service past (settles x turns) x z before after going
@@ -76,18 +76,18 @@ module _ {K : Type 0} (records : K → List (List ℕ)) (gives : K → List ℕ 
     gone_done Down k = (
       (
         leads_fell records gives faults service h.comes.0
-            (subst (λ (whole : CallHere → CallHere). Fell records gives faults service whole x.id y.keeper z.keeper (so_far records service past y mid) (so_far records service past z after)) (settles_as left h.same)
-            (subst (λ (n : ℕ). Fell records gives faults service (settles y left) n y.keeper z.keeper (so_far records service past y mid) (so_far records service past z after)) h.same.id k.0.0)),
+            (subst (λ whole. Fell records gives faults service whole x.id y.keeper z.keeper (so_far records service past y mid) (so_far records service past z after)) (settles_as left h.same)
+            (subst (λ n. Fell records gives faults service (settles y left) n y.keeper z.keeper (so_far records service past y mid) (so_far records service past z after)) h.same.id k.0.0)),
         k.0.1,
       ),
       k.1,
     )
 
     pub gone_stuck : IsStuck records gives faults service past (settles y left) y z mid → IsStuck records gives faults service past (settles x turns) x z before
-    gone_stuck k = by h.moved (subst (λ (whole : CallHere → CallHere). IsStuck records gives faults service past whole y z mid) (settles_as left h.same) k)
+    gone_stuck k = by h.moved (subst (λ whole. IsStuck records gives faults service past whole y z mid) (settles_as left h.same) k)
       where
         by : (y ≡ x) ⊎ (length (records x.keeper) < length (records y.keeper)) → IsStuck records gives faults service past (settles x left) y z mid → IsStuck records gives faults service past (settles x turns) x z before
-        by (inl e) (inl s) = inl (subst (λ (n : NodeValue K). Stands records faults gives n z) e s)
+        by (inl e) (inl s) = inl (subst (λ n. Stands records faults gives n z) e s)
         by (inl e) (inr b) = inr (breaks_later y z mid h.comes.0 b)
         by (inr longer) s = inr (breaks_after y z mid h.comes.0 longer (h.comes.1.up h.comes.2).base (settle_loses left x.nodes x.id _) s)
 
@@ -99,7 +99,7 @@ ends_then {records} {gives} {faults} {service} {past} {whole} {middle} x y {z} b
 ends_then {records} {gives} {faults} {service} {past} {whole} {middle} x y {z} before mid after Down same h k = (
   (
     leads_fell records gives faults service h
-        (subst (λ (n : ℕ). Fell records gives faults service middle n y.keeper z.keeper (so_far records service past y mid) (so_far records service past z after)) same k.0.0),
+        (subst (λ n. Fell records gives faults service middle n y.keeper z.keeper (so_far records service past y mid) (so_far records service past z after)) same k.0.0),
     k.0.1,
   ),
   k.1,
@@ -107,4 +107,4 @@ ends_then {records} {gives} {faults} {service} {past} {whole} {middle} x y {z} b
 
 -- a round's end, as it was named
 pub round_as : {K : Type 0} (records : K → List (List ℕ)) (gives : K → List ℕ → Answer → K → Type 0) (faults : K → ℕ) (service : Declarations) (past : List Value) (left : ℕ) (y z : NodeValue K) (mid after : Draft) {r s : Round} → r ≡ s → GoesRound records gives faults service past left y z mid after r → GoesRound records gives faults service past left y z mid after s
-round_as records gives faults service past left y z mid after e h = subst (λ (t : Round). GoesRound records gives faults service past left y z mid after t) e h
+round_as records gives faults service past left y z mid after e h = subst (λ t. GoesRound records gives faults service past left y z mid after t) e h

@@ -63,7 +63,7 @@ found_instance [] e = absurd (cc)
 found_instance {i} (p ∷ ps) {q} e = by (eqb p.instance i) refl e (found_instance ps {q = q})
   where
     by : (t : Bool) → eqb p.instance i ≡ t → cond t (Some p) (proposal_for i ps) ≡ Some q → (proposal_for i ps ≡ Some q → q.instance ≡ i) → q.instance ≡ i
-    by true s f more = ap (λ (r : Kept). r.instance) (sym (same_Some p q f)) ∙ eqb-true p.instance i s
+    by true s f more = ap (λ r. r.instance) (sym (same_Some p q f)) ∙ eqb-true p.instance i s
     by false s f more = more f
 
 pub found_all : (P : Kept → Type 0) (i : ℕ) (ps : List Kept) {q : Kept} → All P ps → proposal_for i ps ≡ Some q → P q
@@ -87,8 +87,8 @@ module _ {nodes id : ℕ} {a : AcceptorValue} {p : ProposerValue} (h : Proposes 
   -- with one more it is a majority where the proposer's count is
   pub majority_more : is_counted from p.accepted ≡ false → is_majority nodes (p.accepted ++ from ∷ []) ≡ counting.is_majority p.nodes (length p.accepted + 1)
   majority_more new =
-      bridges.majority_is (counted_push nodes _ from (subst (λ (n : ℕ). AreCounted n p.accepted) h.nodes_are h.once.acceptances) one new)
-      ∙ ap (λ (n : ℕ). counting.is_majority n (length (p.accepted ++ from ∷ []))) (sym h.nodes_are)
+      bridges.majority_is (counted_push nodes _ from (subst (λ n. AreCounted n p.accepted) h.nodes_are h.once.acceptances) one new)
+      ∙ ap (λ n. counting.is_majority n (length (p.accepted ++ from ∷ []))) (sym h.nodes_are)
       ∙ ap (counting.is_majority p.nodes) (length-append p.accepted (from ∷ []))
 
   -- the proposer's answer, by its tests
@@ -99,9 +99,9 @@ module _ {nodes id : ℕ} {a : AcceptorValue} {p : ProposerValue} (h : Proposes 
   counts : {q : Kept} → open_of a p.open_instance ≡ Some (proposal_in q) → is_counted from p.accepted ≡ false
       → count_vote nodes sv id (calls.voted l from (proposal_in q)) d ≡ outcome nodes sv id from l (voted None p.nodes (length p.accepted + 1)) d
   counts e new =
-      ap (λ (o : Option (Proposal Value)). count_vote nodes sv id (record { ballot = p.ballot; counted = p.promised; reported = map proposal_in p.reported; proposal = o; accepted_by = p.accepted ++ from ∷ []; active = active }) d) (sym e)
-      ∙ ap (λ (t : Bool). cond t (settle (calls.enough (map proposal_in p.reported)) nodes sv id (led (Leading (one_more nodes sv id from l)) d)) (say (effect.Have (length (p.accepted ++ from ∷ []))) (led (Leading (one_more nodes sv id from l)) d))) (majority_more new)
-      ∙ ap (λ (k : ℕ). cond (counting.is_majority p.nodes (length p.accepted + 1)) (settle (calls.enough (map proposal_in p.reported)) nodes sv id (led (Leading (one_more nodes sv id from l)) d)) (say (effect.Have k) (led (Leading (one_more nodes sv id from l)) d))) (length-append p.accepted (from ∷ []))
+      ap (λ o. count_vote nodes sv id (record { ballot = p.ballot; counted = p.promised; reported = map proposal_in p.reported; proposal = o; accepted_by = p.accepted ++ from ∷ []; active = active }) d) (sym e)
+      ∙ ap (λ t. cond t (settle (calls.enough (map proposal_in p.reported)) nodes sv id (led (Leading (one_more nodes sv id from l)) d)) (say (effect.Have (length (p.accepted ++ from ∷ []))) (led (Leading (one_more nodes sv id from l)) d))) (majority_more new)
+      ∙ ap (λ k. cond (counting.is_majority p.nodes (length p.accepted + 1)) (settle (calls.enough (map proposal_in p.reported)) nodes sv id (led (Leading (one_more nodes sv id from l)) d)) (say (effect.Have k) (led (Leading (one_more nodes sv id from l)) d))) (length-append p.accepted (from ∷ []))
       ∙ go (counting.is_majority p.nodes (length p.accepted + 1))
     where
       go : (t : Bool) → cond t (settle (calls.enough (map proposal_in p.reported)) nodes sv id (led (Leading (one_more nodes sv id from l)) d)) (say (effect.Have (length p.accepted + 1)) (led (Leading (one_more nodes sv id from l)) d))
@@ -114,8 +114,8 @@ module _ {nodes id : ℕ} {a : AcceptorValue} {p : ProposerValue} (h : Proposes 
   at_open {o} e =
       let q = open_at e in
       ap (on_own_vote nodes sv id from i d l) q.1
-      ∙ ap (λ (k : ℕ). cond (eqb k i) (cond (is_in from p.accepted) (say (effect.IgnoredAgain from) d) (count_vote nodes sv id (calls.voted l from (proposal_in q.0)) d)) (say (effect.IgnoredInstance i k) d)) q.2
-      ∙ ap (λ (t : Bool). cond t (cond (is_in from p.accepted) (say (effect.IgnoredAgain from) d) (count_vote nodes sv id (calls.voted l from (proposal_in q.0)) d)) (say (effect.IgnoredInstance i o) d)) (bridges.same_test o i)
+      ∙ ap (λ k. cond (eqb k i) (cond (is_in from p.accepted) (say (effect.IgnoredAgain from) d) (count_vote nodes sv id (calls.voted l from (proposal_in q.0)) d)) (say (effect.IgnoredInstance i k) d)) q.2
+      ∙ ap (λ t. cond t (cond (is_in from p.accepted) (say (effect.IgnoredAgain from) d) (count_vote nodes sv id (calls.voted l from (proposal_in q.0)) d)) (say (effect.IgnoredInstance i o) d)) (bridges.same_test o i)
       ∙ go (eqb i o) q.0 q.1
     where
       again : (q : Kept) → open_of a p.open_instance ≡ Some (proposal_in q) → (t : Bool) → is_counted from p.accepted ≡ t → cond t (say (effect.IgnoredAgain from) d) (count_vote nodes sv id (calls.voted l from (proposal_in q)) d)
@@ -127,16 +127,16 @@ module _ {nodes id : ℕ} {a : AcceptorValue} {p : ProposerValue} (h : Proposes 
           ≡ outcome nodes sv id from l (voted (if not t then Some (why.Instance i o) else if is_counted from p.accepted then Some (why.Again from) else None) p.nodes (length p.accepted + 1)) d
       go false q f = refl
       go true q f =
-          ap (λ (t : Bool). cond t (say (effect.IgnoredAgain from) d) (count_vote nodes sv id (calls.voted l from (proposal_in q)) d)) (bridges.in_counted from _)
+          ap (λ t. cond t (say (effect.IgnoredAgain from) d) (count_vote nodes sv id (calls.voted l from (proposal_in q)) d)) (bridges.in_counted from _)
           ∙ again q f (is_counted from p.accepted) refl
 
   at_any : (o : Option ℕ) → p.open_instance ≡ o → on_own_vote nodes sv id from i d l (open_of a p.open_instance) ≡ outcome nodes sv id from l (answer true o (is_counted from p.accepted)) d
-  at_any None e = ap (λ (o : Option ℕ). on_own_vote nodes sv id from i d l (open_of a o)) e
+  at_any None e = ap (λ o. on_own_vote nodes sv id from i d l (open_of a o)) e
   at_any (Some o) e = at_open e
 
   -- the model does what the proposer's answer says
   voted_is : on_voted nodes sv id from ballot i d (Leading l) ≡ outcome nodes sv id from l (acceptance_vote p ballot i from) d
-  voted_is = ap (λ (t : Bool). cond t (on_own_vote nodes sv id from i d l (open_of a p.open_instance)) (say (effect.IgnoredBallot ballot p.ballot) d)) (bridges.same_test p.ballot ballot) ∙ go (eqb ballot p.ballot)
+  voted_is = ap (λ t. cond t (on_own_vote nodes sv id from i d l (open_of a p.open_instance)) (say (effect.IgnoredBallot ballot p.ballot) d)) (bridges.same_test p.ballot ballot) ∙ go (eqb ballot p.ballot)
     where
       go : (t : Bool) → cond t (on_own_vote nodes sv id from i d l (open_of a p.open_instance)) (say (effect.IgnoredBallot ballot p.ballot) d) ≡ outcome nodes sv id from l (answer t p.open_instance (is_counted from p.accepted)) d
       go false = refl
@@ -152,7 +152,7 @@ no_refusal true true false x y z e = (refl, refl, refl)
 
 open_is : (o : Option ℕ) {i : ℕ} → is_open o i ≡ true → o ≡ Some i
 open_is None e = absurd (cc)
-open_is (Some k) {i} e = ap (λ (n : ℕ). Some n) (sym (eqb-true i k e))
+open_is (Some k) {i} e = ap (λ n. Some n) (sym (eqb-true i k e))
 
 not_yet : (r : Option Why) (nodes : ℕ) {n have : ℕ} → voted r nodes n ≡ vote.NotYet have → (r ≡ None) × (counting.is_majority nodes n ≡ false) × (have ≡ n)
 not_yet (Some w) nodes e = absurd (cc)
@@ -193,7 +193,7 @@ module _ {K : Type 0} (records : K → List (List ℕ)) (gives : K → List ℕ 
   pub whole_is : {p : ProposerValue} → x.proposer ≡ Some p → (d : CallHere) → d.node.role ≡ role_of x.acceptor x.proposer (is_some x.acting)
       → whole d ≡ outcome x.nodes (service_of service x.seed) x.id from (lead_of x.acceptor p (is_some x.acting)) (acceptance_vote p ballot i from) d
   whole_is {p} e d role =
-      ap (λ (r : Role Value). on_voted x.nodes (service_of service x.seed) x.id from ballot i d r) (role ∙ ap (λ (o : Option ProposerValue). role_of x.acceptor o (is_some x.acting)) e)
+      ap (λ r. on_voted x.nodes (service_of service x.seed) x.id from ballot i d r) (role ∙ ap (λ o. role_of x.acceptor o (is_some x.acting)) e)
       ∙ voted_is (proposes_of e) (is_some x.acting) _ ballot i one d
 
   kept_so : IsKept records service past x
@@ -206,9 +206,9 @@ module _ {K : Type 0} (records : K → List (List ℕ)) (gives : K → List ℕ 
     where
       by : (o : Option ProposerValue) → x.proposer ≡ o → acceptance_vote_on o ballot i from ≡ vote.Ignored w → whole d ≡ say (told_of w) d
       by None e f =
-          ap (λ (r : Role Value). on_voted x.nodes (service_of service x.seed) x.id from ballot i d r) (role ∙ ap (λ (o : Option ProposerValue). role_of x.acceptor o (is_some x.acting)) e)
-          ∙ ap (λ (t : Effect). say t d) (ap told_from f)
-      by (Some p) e f = whole_is e d role ∙ ap (λ (z : Vote). outcome x.nodes (service_of service x.seed) x.id from (lead_of x.acceptor p (is_some x.acting)) z d) f
+          ap (λ r. on_voted x.nodes (service_of service x.seed) x.id from ballot i d r) (role ∙ ap (λ o. role_of x.acceptor o (is_some x.acting)) e)
+          ∙ ap (λ t. say t d) (ap told_from f)
+      by (Some p) e f = whole_is e d role ∙ ap (λ z. outcome x.nodes (service_of service x.seed) x.id from (lead_of x.acceptor p (is_some x.acting)) z d) f
 
   pub vote_ignored : {w : Why} → acceptance_vote_on x.proposer ballot i from ≡ vote.Ignored w → (after : Draft) → after.effects.items ≡ before.effects.items ++ told_of w ∷ [] → after.sends.items ≡ before.sends.items → Ends records gives faults service past whole x x before after On
   vote_ignored {w} v after effects sends = (
@@ -235,14 +235,14 @@ module _ {K : Type 0} (records : K → List (List ℕ)) (gives : K → List ℕ 
     more_counted : AreCounted p.nodes (p.accepted ++ from ∷ [])
     more_counted =
         let h = proposes_of e in
-        counted_push p.nodes _ from h.once.acceptances (subst (λ (n : ℕ). IsOneOf n from) (sym h.nodes_are) one) parts.2
+        counted_push p.nodes _ from h.once.acceptances (subst (λ n. IsOneOf n from) (sym h.nodes_are) one) parts.2
 
     module _ (few : counting.is_majority p.nodes (length p.accepted + 1) ≡ false) where
       abbrev q : ProposerValue
       q = record p { accepted = p.accepted ++ from ∷ [] }
 
       q_is : acceptance_counted p ballot i from ≡ q
-      q_is = ap (λ (r : Option Why). with_acceptance r p from) none ∙ ap (λ (t : Bool). cond t (record p { open_instance = None; accepted = [] }) (record p { accepted = p.accepted ++ from ∷ [] })) few
+      q_is = ap (λ r. with_acceptance r p from) none ∙ ap (λ t. cond t (record p { open_instance = None; accepted = [] }) (record p { accepted = p.accepted ++ from ∷ [] })) few
 
       abbrev y_at : NodeValue K
       y_at = record x { proposer = Some q }
@@ -279,23 +279,23 @@ module _ {K : Type 0} (records : K → List (List ℕ)) (gives : K → List ℕ 
             ahead = b.ahead;
             caught_up = b.caught_up;
             proposer = proposes_more;
-            acting = acting_more x.acting (subst (λ (o : Option ProposerValue). IsActing service x.known x.acceptor o x.acting) e b.acting);
+            acting = acting_more x.acting (subst (λ o. IsActing service x.known x.acceptor o x.acting) e b.acting);
             stamped = b.stamped;
-            role = let f : LeadFits (length x.known) (lead_of x.acceptor p (is_some x.acting)) = subst (λ (o : Option ProposerValue). RoleFits (length x.known) (role_of x.acceptor o (is_some x.acting))) e b.role in record { ballot = f.ballot; reported = f.reported; next = f.next };
+            role = let f : LeadFits (length x.known) (lead_of x.acceptor p (is_some x.acting)) = subst (λ o. RoleFits (length x.known) (role_of x.acceptor o (is_some x.acting))) e b.role in record { ballot = f.ballot; reported = f.reported; next = f.next };
           })
 
       y_node : IsResting records service past y_at
-      y_node = record { id = node.id; few = node.few; up = λ t. y_up; reached = node.reached; decoded = node.decoded; rests = λ t. let h : HasGoneOn (Some p) (is_some x.acting) = subst (λ (o : Option ProposerValue). HasGoneOn o (is_some x.acting)) e (node.rests up) in h }
+      y_node = record { id = node.id; few = node.few; up = λ t. y_up; reached = node.reached; decoded = node.decoded; rests = λ t. let h : HasGoneOn (Some p) (is_some x.acting) = subst (λ o. HasGoneOn o (is_some x.acting)) e (node.rests up) in h }
 
       vote_at : acceptance_vote p ballot i from ≡ vote.NotYet (length p.accepted + 1)
-      vote_at = ap (λ (r : Option Why). voted r p.nodes (length p.accepted + 1)) none ∙ ap (λ (t : Bool). counting.vote_of (if t then count.Quorum else count.NotYet (length p.accepted + 1))) few
+      vote_at = ap (λ r. voted r p.nodes (length p.accepted + 1)) none ∙ ap (λ t. counting.vote_of (if t then count.Quorum else count.NotYet (length p.accepted + 1))) few
 
       counted_at : (after : Draft) → after.effects.items ≡ before.effects.items ++ effect.Have (length p.accepted + 1) ∷ [] → after.sends.items ≡ before.sends.items → Ends records gives faults service past whole x y_at before after On
       counted_at after effects sends = (
         (
           leads_same records gives faults service refl
               (λ f. whole_is e _ refl
-              ∙ ap (λ (z : Vote). outcome x.nodes (service_of service x.seed) x.id from (lead_of x.acceptor p (is_some x.acting)) z (armed_with f (so_far records service past x before))) vote_at
+              ∙ ap (λ z. outcome x.nodes (service_of service x.seed) x.id from (lead_of x.acceptor p (is_some x.acting)) z (armed_with f (so_far records service past x before))) vote_at
               ∙ call_is
                refl refl refl (ap (map (message_in past)) (sym sends)) (sym effects)),
           record { id = node.id; few = node.few; up = λ t. y_up; reached = node.reached; decoded = node.decoded },
@@ -313,13 +313,13 @@ module _ {K : Type 0} (records : K → List (List ℕ)) (gives : K → List ℕ 
       by (Some p) e f =
           let n = not_yet _ p.nodes f in
           let all : y ≡ record x { proposer = Some (record p { accepted = p.accepted ++ from ∷ [] }) } =
-          y_is ∙ ap (λ (o : Option ProposerValue). record x { proposer = option_map (λ (q : ProposerValue). acceptance_counted q ballot i from) o }) e ∙ ap (λ (q : ProposerValue). record x { proposer = Some q }) (q_is p e n.0 n.1) in
-          subst (λ (z : NodeValue K). Ends records gives faults service past whole x z before after On) (sym all)
-          (counted_at p e n.0 n.1 after (effects ∙ ap (λ (k : ℕ). before.effects.items ++ effect.Have k ∷ []) n.2) sends)
+          y_is ∙ ap (λ o. record x { proposer = option_map (λ q. acceptance_counted q ballot i from) o }) e ∙ ap (λ q. record x { proposer = Some q }) (q_is p e n.0 n.1) in
+          subst (λ z. Ends records gives faults service past whole x z before after On) (sym all)
+          (counted_at p e n.0 n.1 after (effects ∙ ap (λ k. before.effects.items ++ effect.Have k ∷ []) n.2) sends)
 
   pub vote_one : IfSome x.proposer (λ (p : ProposerValue). IsOneOf p.nodes from)
   vote_one = by x.proposer refl
     where
-      by : (o : Option ProposerValue) → x.proposer ≡ o → IfSome o (λ (p : ProposerValue). IsOneOf p.nodes from)
+      by : (o : Option ProposerValue) → x.proposer ≡ o → IfSome o (λ p. IsOneOf p.nodes from)
       by None e = tt
-      by (Some p) e = subst (λ (n : ℕ). IsOneOf n from) (sym (proposes_of e).nodes_are) one
+      by (Some p) e = subst (λ n. IsOneOf n from) (sym (proposes_of e).nodes_are) one

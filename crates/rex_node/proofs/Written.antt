@@ -38,17 +38,17 @@ pub call_is : {log log' : List (Rec Value StateValue)} {up : Bool} {armed : Opti
     → (let d : CallHere = record { node = record { log = log; up = up; armed = armed; role = role; work = work; replayed = replayed }; sends = sends; effects = effects } in d)
     ≡ (let e : CallHere = record { node = record { log = log'; up = up; armed = armed; role = role; work = work'; replayed = replayed' }; sends = sends'; effects = effects' } in e)
 call_is {log} {log'} {up} {armed} {role} {work} {work'} {replayed} {replayed'} {sends} {sends'} {effects} a b c d e =
-    ap (λ (l : List (Rec Value StateValue)). let z : CallHere = record { node = record { log = l; up = up; armed = armed; role = role; work = work; replayed = replayed }; sends = sends; effects = effects } in z) a
-    ∙ ap (λ (w : Work). let z : CallHere = record { node = record { log = log'; up = up; armed = armed; role = role; work = w; replayed = replayed }; sends = sends; effects = effects } in z) b
-    ∙ ap (λ (n : ℕ). let z : CallHere = record { node = record { log = log'; up = up; armed = armed; role = role; work = work'; replayed = n }; sends = sends; effects = effects } in z) c
-    ∙ ap (λ (ms : List (Message Value)). let z : CallHere = record { node = record { log = log'; up = up; armed = armed; role = role; work = work'; replayed = replayed' }; sends = ms; effects = effects } in z) d
-    ∙ ap (λ (es : List Effect). let z : CallHere = record { node = record { log = log'; up = up; armed = armed; role = role; work = work'; replayed = replayed' }; sends = sends'; effects = es } in z) e
+    ap (λ l. let z : CallHere = record { node = record { log = l; up = up; armed = armed; role = role; work = work; replayed = replayed }; sends = sends; effects = effects } in z) a
+    ∙ ap (λ w. let z : CallHere = record { node = record { log = log'; up = up; armed = armed; role = role; work = w; replayed = replayed }; sends = sends; effects = effects } in z) b
+    ∙ ap (λ n. let z : CallHere = record { node = record { log = log'; up = up; armed = armed; role = role; work = work'; replayed = n }; sends = sends; effects = effects } in z) c
+    ∙ ap (λ ms. let z : CallHere = record { node = record { log = log'; up = up; armed = armed; role = role; work = work'; replayed = replayed' }; sends = ms; effects = effects } in z) d
+    ∙ ap (λ es. let z : CallHere = record { node = record { log = log'; up = up; armed = armed; role = role; work = work'; replayed = replayed' }; sends = sends'; effects = es } in z) e
 
 -- the same of a record that is the same
 pub appends_as : {K : Type 0} (records : K → List (List ℕ)) (gives : K → List ℕ → Answer → K → Type 0) (faults : K → ℕ) (x y : NodeValue K) (before after : Draft) {r s : KeptRec} {g h : Going} → r ≡ s → g ≡ h
     → Appends records faults gives x y before after (record_bytes r) g → Appends records faults gives x y before after (record_bytes s) h
 appends_as records gives faults x y before after {s} {g} a b k =
-    subst (λ (z : Going). Appends records faults gives x y before after (record_bytes s) z) b (subst (λ (z : KeptRec). Appends records faults gives x y before after (record_bytes z) g) a k)
+    subst (λ z. Appends records faults gives x y before after (record_bytes s) z) b (subst (λ z. Appends records faults gives x y before after (record_bytes z) g) a k)
 
 module _ {K : Type 0} (records : K → List (List ℕ)) (gives : K → List ℕ → Answer → K → Type 0) (faults : K → ℕ) {service : Declarations} (past : List Value) {x : NodeValue K} (u : IsUp service x (here_of records service past x))
     {r : KeptRec} (spelling : HasSpelling r) (due : IsDue (standing_in (log_of service past (records x.keeper))) r) (stated : is_stated service (record_bytes r) ≡ true) where
@@ -71,7 +71,7 @@ module _ {K : Type 0} (records : K → List (List ℕ)) (gives : K → List ℕ 
     broken_written {z} same h keeper based loses = record {
       stops = stops_here records gives faults service
           (written_on h) (omega (arith, ap length h.records, length_push (records x.keeper) (record_bytes r))) loses (ap records keeper) (ap faults keeper) (inl keeper) (log_written (ap records keeper ∙ h.records));
-      based = based ∙ ap (λ (n : NodeValue K). n.base) h.parts ∙ u.base ∙ sym same ∙ sym (ap base (log_written (ap records keeper ∙ h.records)));
+      based = based ∙ ap (λ n. n.base) h.parts ∙ u.base ∙ sym same ∙ sym (ap base (log_written (ap records keeper ∙ h.records)));
     }
 
     -- or the node is down
@@ -79,7 +79,7 @@ module _ {K : Type 0} (records : K → List (List ℕ)) (gives : K → List ℕ 
         → Falls records faults gives x y (record_bytes r) → after.effects.items ≡ before.effects.items ++ effect.Down x.id ∷ [] → after.sends.items ≡ []
         → (rest : CallHere → CallHere) → Comes records gives faults service past whole rest x y before after Down
     written_down after same h effects sends rest =
-        (fell_append records gives faults service is x.keeper y.keeper stated h.kept h.answer h.records h.faults (downs h.kept h.records), record { down = ap (λ (n : NodeValue K). n.up) h.parts; bare = ap (λ (n : NodeValue K). n.reached) h.parts })
+        (fell_append records gives faults service is x.keeper y.keeper stated h.kept h.answer h.records h.faults (downs h.kept h.records), record { down = ap (λ n. n.up) h.parts; bare = ap (λ n. n.reached) h.parts })
       where
         logs : (kept : Bool) (now : List (List ℕ)) → now ≡ failed_records kept (records x.keeper) (record_bytes r) → log_of service past now ≡ cond kept more (log_of service past (records x.keeper))
         logs true now e = log_written e
@@ -91,13 +91,13 @@ module _ {K : Type 0} (records : K → List (List ℕ)) (gives : K → List ℕ 
 
         here_down : (kept : Bool) → records y.keeper ≡ failed_records kept (records x.keeper) (record_bytes r) → here_of records service past y ≡ down_node (cond kept more (log_of service past (records x.keeper))) None
         here_down kept e =
-            ap (λ (n : NodeValue K). here_of records service past n) h.parts
-            ∙ ap (λ (l : List (Rec Value StateValue)). record (here_of records service past (fallen x)) { log = l }) (logs kept (records y.keeper) e)
-            ∙ ap (λ (b : ℕ). record (here_of records service past (fallen x)) { log = cond kept more (log_of service past (records x.keeper)); replayed = b }) (bases kept)
+            ap (λ n. here_of records service past n) h.parts
+            ∙ ap (λ l. record (here_of records service past (fallen x)) { log = l }) (logs kept (records y.keeper) e)
+            ∙ ap (λ b. record (here_of records service past (fallen x)) { log = cond kept more (log_of service past (records x.keeper)); replayed = b }) (bases kept)
 
         downs : (kept : Bool) → records y.keeper ≡ failed_records kept (records x.keeper) (record_bytes r)
             → so_far records service past y after ≡ record { node = down_node (cond kept more (log_of service past (records x.keeper))) None; sends = []; effects = before.effects.items ++ effect.Down x.id ∷ [] }
         downs kept e =
-            ap (λ (n : Here). record (so_far records service past y after) { node = n }) (here_down kept e)
-            ∙ ap (λ (ms : List Sent). let z : CallHere = record { node = down_node (cond kept more (log_of service past (records x.keeper))) None; sends = map (message_in past) ms; effects = after.effects.items } in z) sends
-            ∙ ap (λ (es : List Effect). let z : CallHere = record { node = down_node (cond kept more (log_of service past (records x.keeper))) None; sends = []; effects = es } in z) effects
+            ap (λ n. record (so_far records service past y after) { node = n }) (here_down kept e)
+            ∙ ap (λ ms. let z : CallHere = record { node = down_node (cond kept more (log_of service past (records x.keeper))) None; sends = map (message_in past) ms; effects = after.effects.items } in z) sends
+            ∙ ap (λ es. let z : CallHere = record { node = down_node (cond kept more (log_of service past (records x.keeper))) None; sends = []; effects = es } in z) effects

@@ -7,13 +7,13 @@ use Rattle.rex_node.proofs.replies.last_held.Goals as goal
 pub returns-then-branch : goal.returns-then-branch
 returns-then-branch c =
     let i : ℕ = length c.args.known.now.values - 1 - c.loop-back.back in
-    let many : length c.values-values.result.now ≡ length c.args.known.now.values = ap (λ (vs : List Value). length vs) c.values-values.ensures in
+    let many : length c.values-values.result.now ≡ length c.args.known.now.values = ap (λ vs. length vs) c.values-values.ensures in
     let test = c.loop-back-test.true in
     let there : c.loop-back.back < length c.args.known.now.values = omega (arith, test, many) in
     let some : replies_to c.args.client (events_of (slice_index_or c.args.known.now.values i c.index-values-count.result)) ≡ true =
-    ap (λ (vs : List Value). replies_to c.args.client (events_of (slice_index_or vs (length vs - 1 - c.loop-back.back) c.index-values-count.result))) (sym c.values-values.ensures)
-    ∙ ap (λ (v : Value). replies_to c.args.client (events_of v)) (sym c.index-values-count.is)
-    ∙ ap (λ (v : Value). replies_to c.args.client (events_of v)) (sym c.as_slice.ensures)
+    ap (λ vs. replies_to c.args.client (events_of (slice_index_or vs (length vs - 1 - c.loop-back.back) c.index-values-count.result))) (sym c.values-values.ensures)
+    ∙ ap (λ v. replies_to c.args.client (events_of v)) (sym c.index-values-count.is)
+    ∙ ap (λ v. replies_to c.args.client (events_of v)) (sym c.as_slice.ensures)
     ∙ sym c.in_ok-has_reply.ensures ∙ c.if-branch.true in
     (let known = c.known-last.ensures.known in let n : c.known-last.result - c.loop-back.back ≡ suc (c.args.known.now.offset + i) = omega (arith, there, known) in n)
     ∙ found_last _ _ _ _ (omega (arith, there)) some

@@ -10,5 +10,5 @@ loop-index-preserved c =
     let that : c.loop-index.index < length c.args.those.now = let many = c.if-those-count.false in omega (arith, test, many) in
     let same : c.index-these-index.result ≡ c.index-those-index.result = sym c.as_slice.ensures ∙ c.is_same.ensures (c.if-not-is_same.false) ∙ c.as_slice-in-loop-index.ensures in
     take_more c.args.these.now c.loop-index.index c.index-these-index.result this
-    ∙ ap₂ (λ (vs : List Value) (v : Value). vs ++ v ∷ []) c.loop-index.invariant (sym c.index-these-index.is ∙ same ∙ c.index-those-index.is)
+    ∙ ap₂ (λ vs v. vs ++ v ∷ []) c.loop-index.invariant (sym c.index-these-index.is ∙ same ∙ c.index-those-index.is)
     ∙ sym (take_more c.args.those.now c.loop-index.index c.index-those-index.result that)

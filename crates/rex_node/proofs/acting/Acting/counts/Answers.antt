@@ -6,5 +6,5 @@ use Rattle.rex_node.proofs.acting.Acting.counts.Goals as goal
 
 pub limits_between-requires-clause-lasts : goal.limits_between-requires-clause-lasts
 limits_between-requires-clause-lasts c =
-    ap length (c.deref-in-Some.ensures.value ∙ c.in_ok-lasts-in-Some.ensures ∙ ap counts_of (c.state-in-Some.ensures ∙ ap (λ (x : ActingValue). x.recorder.state) c.self.view_is))
+    ap length (c.deref-in-Some.ensures.value ∙ c.in_ok-lasts-in-Some.ensures ∙ ap counts_of (c.state-in-Some.ensures ∙ ap (λ x. x.recorder.state) c.self.view_is))
     ∙ lasts_long c.args.self.now c.requires.recorder ∙ sym (rw c.in-Some.is at c.requires.limits)

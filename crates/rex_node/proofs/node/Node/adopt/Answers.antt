@@ -30,87 +30,87 @@ returns-in-Down-clause-goes g c =
     adopt_down _ _ c.declarations-service.ensures.sound c.declarations-service.ensures.checked c.requires.kept c.requires.up c.requires.next
     (chooses_of _ c.requires.goes c.requires.reported) _ c.requires.turns
     c.args.draft.now c.propose.new.draft c.in_ok-propose.ensures.same
-    (opens_as _ _ _ _ _ (whole g.P.Past.past c.args.self.now) _ c.args.draft.now c.propose.new.draft _ _ (told_is _ (ap (λ (n : NodeValue _). n.id) c.self.view_is) c.event_count-events.ensures) c.in-Down.is c.in_ok-propose.ensures.opens)
+    (opens_as _ _ _ _ _ (whole g.P.Past.past c.args.self.now) _ c.args.draft.now c.propose.new.draft _ _ (told_is _ (ap (λ n. n.id) c.self.view_is) c.event_count-events.ensures) c.in-Down.is c.in_ok-propose.ensures.opens)
 
 pub returns-then-self-gt1-clause-goes : goal.returns-then-self-gt1-clause-goes
 returns-then-self-gt1-clause-goes g c =
     adopt_rests g.K.Keeper.append_gives g.K.Keeper.faults c.declarations-service.ensures.sound c.declarations-service.ensures.checked c.requires.kept c.requires.up c.requires.next
     (chooses_of c.args.self.now.proposer c.requires.goes c.requires.reported) c.args.turns c.requires.turns
     c.args.draft.now c.propose.new.draft
-    (opens_as g.K.Keeper.records g.K.Keeper.append_gives g.K.Keeper.faults c.args.svc.now g.P.Past.past (whole g.P.Past.past c.args.self.now) (whole g.P.Past.past c.propose.new.self) c.args.draft.now c.propose.new.draft c.args.instance c.args.value.now (told_is c.args.value.now (ap (λ (n : NodeValue _). n.id) c.self.view_is) c.event_count-events.ensures) c.in-On.is c.in_ok-propose.ensures.opens)
+    (opens_as g.K.Keeper.records g.K.Keeper.append_gives g.K.Keeper.faults c.args.svc.now g.P.Past.past (whole g.P.Past.past c.args.self.now) (whole g.P.Past.past c.propose.new.self) c.args.draft.now c.propose.new.draft c.args.instance c.args.value.now (told_is c.args.value.now (ap (λ n. n.id) c.self.view_is) c.event_count-events.ensures) c.in-On.is c.in_ok-propose.ensures.opens)
     (parts_as (whole g.P.Past.past c.args.self.now) c.args.instance c.args.value.now c.in-On.is c.in_ok-propose.ensures.parts)
     (longer_as g.K.Keeper.records (whole g.P.Past.past c.args.self.now) (whole g.P.Past.past c.propose.new.self) c.in-On.is c.in_ok-propose.ensures.longer)
-    (nodes_many (ap (λ (n : NodeValue _). n.nodes) c.self-in-On.view_is ∙ c.in_ok-propose.ensures.same.nodes) c.if-self-gt1.true)
+    (nodes_many (ap (λ n. n.nodes) c.self-in-On.view_is ∙ c.in_ok-propose.ensures.same.nodes) c.if-self-gt1.true)
 
 pub learn-requires-clause-kept : goal.learn-requires-clause-kept
 learn-requires-clause-kept g c =
     alone_kept g.K.Keeper.append_gives g.K.Keeper.faults c.declarations-service.ensures.sound c.declarations-service.ensures.checked c.requires.kept c.requires.up c.requires.next
     (chooses_of c.args.self.now.proposer c.requires.goes c.requires.reported) c.args.turns c.requires.turns
     c.args.draft.now c.propose.new.draft
-    (opens_as g.K.Keeper.records g.K.Keeper.append_gives g.K.Keeper.faults c.args.svc.now g.P.Past.past (whole g.P.Past.past c.args.self.now) (whole g.P.Past.past c.propose.new.self) c.args.draft.now c.propose.new.draft c.args.instance c.args.value.now (told_is c.args.value.now (ap (λ (n : NodeValue _). n.id) c.self.view_is) c.event_count-events.ensures) c.in-On.is c.in_ok-propose.ensures.opens)
+    (opens_as g.K.Keeper.records g.K.Keeper.append_gives g.K.Keeper.faults c.args.svc.now g.P.Past.past (whole g.P.Past.past c.args.self.now) (whole g.P.Past.past c.propose.new.self) c.args.draft.now c.propose.new.draft c.args.instance c.args.value.now (told_is c.args.value.now (ap (λ n. n.id) c.self.view_is) c.event_count-events.ensures) c.in-On.is c.in_ok-propose.ensures.opens)
     (parts_as (whole g.P.Past.past c.args.self.now) c.args.instance c.args.value.now c.in-On.is c.in_ok-propose.ensures.parts)
     (longer_as g.K.Keeper.records (whole g.P.Past.past c.args.self.now) (whole g.P.Past.past c.propose.new.self) c.in-On.is c.in_ok-propose.ensures.longer)
-    (nodes_few (ap (λ (n : NodeValue _). n.nodes) c.self-in-On.view_is ∙ c.in_ok-propose.ensures.same.nodes) c.if-self-gt1.false)
+    (nodes_few (ap (λ n. n.nodes) c.self-in-On.view_is ∙ c.in_ok-propose.ensures.same.nodes) c.if-self-gt1.false)
 
 pub learn-requires-clause-up : goal.learn-requires-clause-up
 learn-requires-clause-up g c =
     alone_up g.K.Keeper.append_gives g.K.Keeper.faults c.declarations-service.ensures.sound c.declarations-service.ensures.checked c.requires.kept c.requires.up c.requires.next
     (chooses_of c.args.self.now.proposer c.requires.goes c.requires.reported) c.args.turns c.requires.turns
     c.args.draft.now c.propose.new.draft
-    (opens_as g.K.Keeper.records g.K.Keeper.append_gives g.K.Keeper.faults c.args.svc.now g.P.Past.past (whole g.P.Past.past c.args.self.now) (whole g.P.Past.past c.propose.new.self) c.args.draft.now c.propose.new.draft c.args.instance c.args.value.now (told_is c.args.value.now (ap (λ (n : NodeValue _). n.id) c.self.view_is) c.event_count-events.ensures) c.in-On.is c.in_ok-propose.ensures.opens)
+    (opens_as g.K.Keeper.records g.K.Keeper.append_gives g.K.Keeper.faults c.args.svc.now g.P.Past.past (whole g.P.Past.past c.args.self.now) (whole g.P.Past.past c.propose.new.self) c.args.draft.now c.propose.new.draft c.args.instance c.args.value.now (told_is c.args.value.now (ap (λ n. n.id) c.self.view_is) c.event_count-events.ensures) c.in-On.is c.in_ok-propose.ensures.opens)
     (parts_as (whole g.P.Past.past c.args.self.now) c.args.instance c.args.value.now c.in-On.is c.in_ok-propose.ensures.parts)
     (longer_as g.K.Keeper.records (whole g.P.Past.past c.args.self.now) (whole g.P.Past.past c.propose.new.self) c.in-On.is c.in_ok-propose.ensures.longer)
-    (nodes_few (ap (λ (n : NodeValue _). n.nodes) c.self-in-On.view_is ∙ c.in_ok-propose.ensures.same.nodes) c.if-self-gt1.false)
+    (nodes_few (ap (λ n. n.nodes) c.self-in-On.view_is ∙ c.in_ok-propose.ensures.same.nodes) c.if-self-gt1.false)
 
 pub learn-requires-clause-leads : goal.learn-requires-clause-leads
 learn-requires-clause-leads g c =
     alone_leads g.K.Keeper.append_gives g.K.Keeper.faults c.declarations-service.ensures.sound c.declarations-service.ensures.checked c.requires.kept c.requires.up c.requires.next
     (chooses_of c.args.self.now.proposer c.requires.goes c.requires.reported) c.args.turns c.requires.turns
     c.args.draft.now c.propose.new.draft
-    (opens_as g.K.Keeper.records g.K.Keeper.append_gives g.K.Keeper.faults c.args.svc.now g.P.Past.past (whole g.P.Past.past c.args.self.now) (whole g.P.Past.past c.propose.new.self) c.args.draft.now c.propose.new.draft c.args.instance c.args.value.now (told_is c.args.value.now (ap (λ (n : NodeValue _). n.id) c.self.view_is) c.event_count-events.ensures) c.in-On.is c.in_ok-propose.ensures.opens)
+    (opens_as g.K.Keeper.records g.K.Keeper.append_gives g.K.Keeper.faults c.args.svc.now g.P.Past.past (whole g.P.Past.past c.args.self.now) (whole g.P.Past.past c.propose.new.self) c.args.draft.now c.propose.new.draft c.args.instance c.args.value.now (told_is c.args.value.now (ap (λ n. n.id) c.self.view_is) c.event_count-events.ensures) c.in-On.is c.in_ok-propose.ensures.opens)
     (parts_as (whole g.P.Past.past c.args.self.now) c.args.instance c.args.value.now c.in-On.is c.in_ok-propose.ensures.parts)
     (longer_as g.K.Keeper.records (whole g.P.Past.past c.args.self.now) (whole g.P.Past.past c.propose.new.self) c.in-On.is c.in_ok-propose.ensures.longer)
-    (nodes_few (ap (λ (n : NodeValue _). n.nodes) c.self-in-On.view_is ∙ c.in_ok-propose.ensures.same.nodes) c.if-self-gt1.false)
+    (nodes_few (ap (λ n. n.nodes) c.self-in-On.view_is ∙ c.in_ok-propose.ensures.same.nodes) c.if-self-gt1.false)
 
 pub learn-requires-clause-next : goal.learn-requires-clause-next
 learn-requires-clause-next g c =
     alone_next g.K.Keeper.append_gives g.K.Keeper.faults c.declarations-service.ensures.sound c.declarations-service.ensures.checked c.requires.kept c.requires.up c.requires.next
     (chooses_of c.args.self.now.proposer c.requires.goes c.requires.reported) c.args.turns c.requires.turns
     c.args.draft.now c.propose.new.draft
-    (opens_as g.K.Keeper.records g.K.Keeper.append_gives g.K.Keeper.faults c.args.svc.now g.P.Past.past (whole g.P.Past.past c.args.self.now) (whole g.P.Past.past c.propose.new.self) c.args.draft.now c.propose.new.draft c.args.instance c.args.value.now (told_is c.args.value.now (ap (λ (n : NodeValue _). n.id) c.self.view_is) c.event_count-events.ensures) c.in-On.is c.in_ok-propose.ensures.opens)
+    (opens_as g.K.Keeper.records g.K.Keeper.append_gives g.K.Keeper.faults c.args.svc.now g.P.Past.past (whole g.P.Past.past c.args.self.now) (whole g.P.Past.past c.propose.new.self) c.args.draft.now c.propose.new.draft c.args.instance c.args.value.now (told_is c.args.value.now (ap (λ n. n.id) c.self.view_is) c.event_count-events.ensures) c.in-On.is c.in_ok-propose.ensures.opens)
     (parts_as (whole g.P.Past.past c.args.self.now) c.args.instance c.args.value.now c.in-On.is c.in_ok-propose.ensures.parts)
     (longer_as g.K.Keeper.records (whole g.P.Past.past c.args.self.now) (whole g.P.Past.past c.propose.new.self) c.in-On.is c.in_ok-propose.ensures.longer)
-    (nodes_few (ap (λ (n : NodeValue _). n.nodes) c.self-in-On.view_is ∙ c.in_ok-propose.ensures.same.nodes) c.if-self-gt1.false)
+    (nodes_few (ap (λ n. n.nodes) c.self-in-On.view_is ∙ c.in_ok-propose.ensures.same.nodes) c.if-self-gt1.false)
 
 pub learn-requires-clause-cut : goal.learn-requires-clause-cut
 learn-requires-clause-cut g c =
     alone_cut g.K.Keeper.append_gives g.K.Keeper.faults c.declarations-service.ensures.sound c.declarations-service.ensures.checked c.requires.kept c.requires.up c.requires.next
     (chooses_of c.args.self.now.proposer c.requires.goes c.requires.reported) c.args.turns c.requires.turns
     c.args.draft.now c.propose.new.draft
-    (opens_as g.K.Keeper.records g.K.Keeper.append_gives g.K.Keeper.faults c.args.svc.now g.P.Past.past (whole g.P.Past.past c.args.self.now) (whole g.P.Past.past c.propose.new.self) c.args.draft.now c.propose.new.draft c.args.instance c.args.value.now (told_is c.args.value.now (ap (λ (n : NodeValue _). n.id) c.self.view_is) c.event_count-events.ensures) c.in-On.is c.in_ok-propose.ensures.opens)
+    (opens_as g.K.Keeper.records g.K.Keeper.append_gives g.K.Keeper.faults c.args.svc.now g.P.Past.past (whole g.P.Past.past c.args.self.now) (whole g.P.Past.past c.propose.new.self) c.args.draft.now c.propose.new.draft c.args.instance c.args.value.now (told_is c.args.value.now (ap (λ n. n.id) c.self.view_is) c.event_count-events.ensures) c.in-On.is c.in_ok-propose.ensures.opens)
     (parts_as (whole g.P.Past.past c.args.self.now) c.args.instance c.args.value.now c.in-On.is c.in_ok-propose.ensures.parts)
     (longer_as g.K.Keeper.records (whole g.P.Past.past c.args.self.now) (whole g.P.Past.past c.propose.new.self) c.in-On.is c.in_ok-propose.ensures.longer)
-    (nodes_few (ap (λ (n : NodeValue _). n.nodes) c.self-in-On.view_is ∙ c.in_ok-propose.ensures.same.nodes) c.if-self-gt1.false)
+    (nodes_few (ap (λ n. n.nodes) c.self-in-On.view_is ∙ c.in_ok-propose.ensures.same.nodes) c.if-self-gt1.false)
 
 pub learn-requires-clause-fits : goal.learn-requires-clause-fits
 learn-requires-clause-fits g c =
     alone_fits g.K.Keeper.append_gives g.K.Keeper.faults c.declarations-service.ensures.sound c.declarations-service.ensures.checked c.requires.kept c.requires.up c.requires.next
     (chooses_of c.args.self.now.proposer c.requires.goes c.requires.reported) c.args.turns c.requires.turns
     c.args.draft.now c.propose.new.draft
-    (opens_as g.K.Keeper.records g.K.Keeper.append_gives g.K.Keeper.faults c.args.svc.now g.P.Past.past (whole g.P.Past.past c.args.self.now) (whole g.P.Past.past c.propose.new.self) c.args.draft.now c.propose.new.draft c.args.instance c.args.value.now (told_is c.args.value.now (ap (λ (n : NodeValue _). n.id) c.self.view_is) c.event_count-events.ensures) c.in-On.is c.in_ok-propose.ensures.opens)
+    (opens_as g.K.Keeper.records g.K.Keeper.append_gives g.K.Keeper.faults c.args.svc.now g.P.Past.past (whole g.P.Past.past c.args.self.now) (whole g.P.Past.past c.propose.new.self) c.args.draft.now c.propose.new.draft c.args.instance c.args.value.now (told_is c.args.value.now (ap (λ n. n.id) c.self.view_is) c.event_count-events.ensures) c.in-On.is c.in_ok-propose.ensures.opens)
     (parts_as (whole g.P.Past.past c.args.self.now) c.args.instance c.args.value.now c.in-On.is c.in_ok-propose.ensures.parts)
     (longer_as g.K.Keeper.records (whole g.P.Past.past c.args.self.now) (whole g.P.Past.past c.propose.new.self) c.in-On.is c.in_ok-propose.ensures.longer)
-    (nodes_few (ap (λ (n : NodeValue _). n.nodes) c.self-in-On.view_is ∙ c.in_ok-propose.ensures.same.nodes) c.if-self-gt1.false) c.requires.runs
+    (nodes_few (ap (λ n. n.nodes) c.self-in-On.view_is ∙ c.in_ok-propose.ensures.same.nodes) c.if-self-gt1.false) c.requires.runs
 
 pub learn-requires-clause-count : goal.learn-requires-clause-count
 learn-requires-clause-count g c =
     alone_count g.K.Keeper.append_gives g.K.Keeper.faults c.declarations-service.ensures.sound c.declarations-service.ensures.checked c.requires.kept c.requires.up c.requires.next
     (chooses_of c.args.self.now.proposer c.requires.goes c.requires.reported) c.args.turns c.requires.turns
     c.args.draft.now c.propose.new.draft
-    (opens_as g.K.Keeper.records g.K.Keeper.append_gives g.K.Keeper.faults c.args.svc.now g.P.Past.past (whole g.P.Past.past c.args.self.now) (whole g.P.Past.past c.propose.new.self) c.args.draft.now c.propose.new.draft c.args.instance c.args.value.now (told_is c.args.value.now (ap (λ (n : NodeValue _). n.id) c.self.view_is) c.event_count-events.ensures) c.in-On.is c.in_ok-propose.ensures.opens)
+    (opens_as g.K.Keeper.records g.K.Keeper.append_gives g.K.Keeper.faults c.args.svc.now g.P.Past.past (whole g.P.Past.past c.args.self.now) (whole g.P.Past.past c.propose.new.self) c.args.draft.now c.propose.new.draft c.args.instance c.args.value.now (told_is c.args.value.now (ap (λ n. n.id) c.self.view_is) c.event_count-events.ensures) c.in-On.is c.in_ok-propose.ensures.opens)
     (parts_as (whole g.P.Past.past c.args.self.now) c.args.instance c.args.value.now c.in-On.is c.in_ok-propose.ensures.parts)
     (longer_as g.K.Keeper.records (whole g.P.Past.past c.args.self.now) (whole g.P.Past.past c.propose.new.self) c.in-On.is c.in_ok-propose.ensures.longer)
-    (nodes_few (ap (λ (n : NodeValue _). n.nodes) c.self-in-On.view_is ∙ c.in_ok-propose.ensures.same.nodes) c.if-self-gt1.false) c.requires.count
+    (nodes_few (ap (λ n. n.nodes) c.self-in-On.view_is ∙ c.in_ok-propose.ensures.same.nodes) c.if-self-gt1.false) c.requires.count
 
 pub learn-requires-clause-there : goal.learn-requires-clause-there
 learn-requires-clause-there g c =
@@ -127,7 +127,7 @@ returns-in_err-propose-clause-stuck g c =
     on_err _
     (adopt_stuck _ _ c.declarations-service.ensures.sound c.declarations-service.ensures.checked c.requires.kept c.requires.up c.requires.next
     (chooses_of _ c.requires.goes c.requires.reported) _ c.requires.turns
-    (opens_short_as _ _ _ _ _ (told_is _ (ap (λ (n : NodeValue _). n.id) c.self.view_is) c.event_count-events.ensures) c.in_err-propose.ensures.stuck))
+    (opens_short_as _ _ _ _ _ (told_is _ (ap (λ n. n.id) c.self.view_is) c.event_count-events.ensures) c.in_err-propose.ensures.stuck))
 
 pub returns-in_err-learn-in-On-clause-stuck : goal.returns-in_err-learn-in-On-clause-stuck
 returns-in_err-learn-in-On-clause-stuck g c =
@@ -135,20 +135,20 @@ returns-in_err-learn-in-On-clause-stuck g c =
     (alone_stuck g.K.Keeper.append_gives g.K.Keeper.faults c.declarations-service.ensures.sound c.declarations-service.ensures.checked c.requires.kept c.requires.up c.requires.next
     (chooses_of c.args.self.now.proposer c.requires.goes c.requires.reported) c.args.turns c.requires.turns
     c.args.draft.now c.propose.new.draft
-    (opens_as g.K.Keeper.records g.K.Keeper.append_gives g.K.Keeper.faults c.args.svc.now g.P.Past.past (whole g.P.Past.past c.args.self.now) (whole g.P.Past.past c.propose.new.self) c.args.draft.now c.propose.new.draft c.args.instance c.args.value.now (told_is c.args.value.now (ap (λ (n : NodeValue _). n.id) c.self.view_is) c.event_count-events.ensures) c.in-On.is c.in_ok-propose.ensures.opens)
+    (opens_as g.K.Keeper.records g.K.Keeper.append_gives g.K.Keeper.faults c.args.svc.now g.P.Past.past (whole g.P.Past.past c.args.self.now) (whole g.P.Past.past c.propose.new.self) c.args.draft.now c.propose.new.draft c.args.instance c.args.value.now (told_is c.args.value.now (ap (λ n. n.id) c.self.view_is) c.event_count-events.ensures) c.in-On.is c.in_ok-propose.ensures.opens)
     (parts_as (whole g.P.Past.past c.args.self.now) c.args.instance c.args.value.now c.in-On.is c.in_ok-propose.ensures.parts)
     (longer_as g.K.Keeper.records (whole g.P.Past.past c.args.self.now) (whole g.P.Past.past c.propose.new.self) c.in-On.is c.in_ok-propose.ensures.longer)
-    (nodes_few (ap (λ (n : NodeValue _). n.nodes) c.self-in-On.view_is ∙ c.in_ok-propose.ensures.same.nodes) c.if-self-gt1.false) c.in_err-learn-in-On.ensures.stuck)
+    (nodes_few (ap (λ n. n.nodes) c.self-in-On.view_is ∙ c.in_ok-propose.ensures.same.nodes) c.if-self-gt1.false) c.in_err-learn-in-On.ensures.stuck)
 
 pub returns-in-Down-2-clause-goes : goal.returns-in-Down-2-clause-goes
 returns-in-Down-2-clause-goes g c =
     alone_down g.K.Keeper.append_gives g.K.Keeper.faults c.declarations-service.ensures.sound c.declarations-service.ensures.checked c.requires.kept c.requires.up c.requires.next
     (chooses_of c.args.self.now.proposer c.requires.goes c.requires.reported) c.args.turns c.requires.turns
     c.args.draft.now c.propose.new.draft
-    (opens_as g.K.Keeper.records g.K.Keeper.append_gives g.K.Keeper.faults c.args.svc.now g.P.Past.past (whole g.P.Past.past c.args.self.now) (whole g.P.Past.past c.propose.new.self) c.args.draft.now c.propose.new.draft c.args.instance c.args.value.now (told_is c.args.value.now (ap (λ (n : NodeValue _). n.id) c.self.view_is) c.event_count-events.ensures) c.in-On.is c.in_ok-propose.ensures.opens)
+    (opens_as g.K.Keeper.records g.K.Keeper.append_gives g.K.Keeper.faults c.args.svc.now g.P.Past.past (whole g.P.Past.past c.args.self.now) (whole g.P.Past.past c.propose.new.self) c.args.draft.now c.propose.new.draft c.args.instance c.args.value.now (told_is c.args.value.now (ap (λ n. n.id) c.self.view_is) c.event_count-events.ensures) c.in-On.is c.in_ok-propose.ensures.opens)
     (parts_as (whole g.P.Past.past c.args.self.now) c.args.instance c.args.value.now c.in-On.is c.in_ok-propose.ensures.parts)
     (longer_as g.K.Keeper.records (whole g.P.Past.past c.args.self.now) (whole g.P.Past.past c.propose.new.self) c.in-On.is c.in_ok-propose.ensures.longer)
-    (nodes_few (ap (λ (n : NodeValue _). n.nodes) c.self-in-On.view_is ∙ c.in_ok-propose.ensures.same.nodes) c.if-self-gt1.false) c.learn.new.draft (same_then c.in_ok-propose.ensures.same c.in_ok-learn-in-On.ensures.same)
+    (nodes_few (ap (λ n. n.nodes) c.self-in-On.view_is ∙ c.in_ok-propose.ensures.same.nodes) c.if-self-gt1.false) c.learn.new.draft (same_then c.in_ok-propose.ensures.same c.in_ok-learn-in-On.ensures.same)
     (learns_as g.K.Keeper.records g.K.Keeper.append_gives g.K.Keeper.faults c.args.svc.now g.P.Past.past (whole g.P.Past.past c.propose.new.self) (whole g.P.Past.past c.learn.new.self) c.propose.new.draft c.learn.new.draft c.args.instance c.args.value.now c.in-Down-2.is c.in_ok-learn-in-On.ensures.learns)
 
 pub returns-in-On-2-clause-goes : goal.returns-in-On-2-clause-goes
@@ -156,10 +156,10 @@ returns-in-On-2-clause-goes g c =
     alone_again g.K.Keeper.append_gives g.K.Keeper.faults c.declarations-service.ensures.sound c.declarations-service.ensures.checked c.requires.kept c.requires.up c.requires.next
     (chooses_of c.args.self.now.proposer c.requires.goes c.requires.reported) c.args.turns c.requires.turns
     c.args.draft.now c.propose.new.draft
-    (opens_as g.K.Keeper.records g.K.Keeper.append_gives g.K.Keeper.faults c.args.svc.now g.P.Past.past (whole g.P.Past.past c.args.self.now) (whole g.P.Past.past c.propose.new.self) c.args.draft.now c.propose.new.draft c.args.instance c.args.value.now (told_is c.args.value.now (ap (λ (n : NodeValue _). n.id) c.self.view_is) c.event_count-events.ensures) c.in-On.is c.in_ok-propose.ensures.opens)
+    (opens_as g.K.Keeper.records g.K.Keeper.append_gives g.K.Keeper.faults c.args.svc.now g.P.Past.past (whole g.P.Past.past c.args.self.now) (whole g.P.Past.past c.propose.new.self) c.args.draft.now c.propose.new.draft c.args.instance c.args.value.now (told_is c.args.value.now (ap (λ n. n.id) c.self.view_is) c.event_count-events.ensures) c.in-On.is c.in_ok-propose.ensures.opens)
     (parts_as (whole g.P.Past.past c.args.self.now) c.args.instance c.args.value.now c.in-On.is c.in_ok-propose.ensures.parts)
     (longer_as g.K.Keeper.records (whole g.P.Past.past c.args.self.now) (whole g.P.Past.past c.propose.new.self) c.in-On.is c.in_ok-propose.ensures.longer)
-    (nodes_few (ap (λ (n : NodeValue _). n.nodes) c.self-in-On.view_is ∙ c.in_ok-propose.ensures.same.nodes) c.if-self-gt1.false) c.learn.new.draft
+    (nodes_few (ap (λ n. n.nodes) c.self-in-On.view_is ∙ c.in_ok-propose.ensures.same.nodes) c.if-self-gt1.false) c.learn.new.draft
     (learns_as g.K.Keeper.records g.K.Keeper.append_gives g.K.Keeper.faults c.args.svc.now g.P.Past.past (whole g.P.Past.past c.propose.new.self) (whole g.P.Past.past c.learn.new.self) c.propose.new.draft c.learn.new.draft c.args.instance c.args.value.now c.in-On-2.is c.in_ok-learn-in-On.ensures.learns)
     (known_as c.args.svc.now (whole g.P.Past.past c.propose.new.self) c.args.instance c.args.value.now c.in-On-2.is c.in_ok-learn-in-On.ensures.parts)
     (longer_as g.K.Keeper.records (whole g.P.Past.past c.propose.new.self) (whole g.P.Past.past c.learn.new.self) c.in-On-2.is c.in_ok-learn-in-On.ensures.longer)

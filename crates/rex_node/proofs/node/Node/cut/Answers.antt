@@ -24,7 +24,7 @@ come : (g : Over) (c : goal.After-finish g)
 come g c = record {
   node = c.requires.node;
   up = c.in_ok-piece.ensures.can.up;
-  many = c.len-before.ensures ∙ ap (λ (z : NodeValue _). length (g.K.Keeper.records z.keeper)) c.self.view_is;
+  many = c.len-before.ensures ∙ ap (λ z. length (g.K.Keeper.records z.keeper)) c.self.view_is;
   effects = c.new-draft.ensures.effects;
   sends = c.new-draft.ensures.sends;
   ends = if_then (ProposesPiece g.K.Keeper.records g.K.Keeper.append_gives g.K.Keeper.faults c.args.svc.now g.P.Past.past c.in_ok-piece.piece.cut.counts (whole g.P.Past.past c.args.self.now) (whole g.P.Past.past c.propose_piece-end.new.self) c.new-draft.result c.propose_piece-end.new.draft)

@@ -11,8 +11,8 @@ use Rattle.rex_node.proofs.node.Node.drop_known.Goals as goal
 come : (g : given.Over) (c : goal.After-finish g) → HasCome g.K.Keeper.records g.K.Keeper.append_gives g.K.Keeper.faults c.args.svc.now g.P.Past.past (calls.drop_known c.args.self.now.id) (whole g.P.Past.past c.args.self.now) (whole g.P.Past.past c.drop_to_base-end.new.self) (whole g.P.Past.past c.finish.new.self) c.len-before.result c.new-draft.result c.drop_to_base-end.new.draft c.drop_to_base-end.result c.finish.result
 come g c = record {
   node = c.requires.node;
-  up = ap (λ (n : NodeValue _). n.up) (sym c.self.view_is) ∙ c.if-not-self.false;
-  many = c.len-before.ensures ∙ ap (λ (n : NodeValue _). length (g.K.Keeper.records n.keeper)) c.self.view_is;
+  up = ap (λ n. n.up) (sym c.self.view_is) ∙ c.if-not-self.false;
+  many = c.len-before.ensures ∙ ap (λ n. length (g.K.Keeper.records n.keeper)) c.self.view_is;
   effects = c.new-draft.ensures.effects;
   sends = c.new-draft.ensures.sends;
   ends = c.drop_to_base-end.ensures.ends;

@@ -9,25 +9,25 @@ use Rattle.rex_node.proofs.node.Node.drop_to_base.Goals as goal
 pub returns-in-Down-clause-ends : goal.returns-in-Down-clause-ends
 returns-in-Down-clause-ends g c =
     drop_down _ _ _ _ _ _ _ c.args.draft.now c.append.new.draft c.requires.node c.requires.up c.requires.held
-    (appends_at _ _ _ _ _ c.args.draft.now c.append.new.draft _ (ap (λ (n : NodeValue _). kept.Dropped n.base) c.self.view_is) c.in-Down.is c.in_ok-append.ensures.appends)
+    (appends_at _ _ _ _ _ c.args.draft.now c.append.new.draft _ (ap (λ n. kept.Dropped n.base) c.self.view_is) c.in-Down.is c.in_ok-append.ensures.appends)
 
 pub forget-requires-clause-to : goal.forget-requires-clause-to
 forget-requires-clause-to g c =
-    subst (λ (n : NodeValue _). n.base ≤ count_of c.append.new.self) (sym c.self.view_is)
+    subst (λ n. n.base ≤ count_of c.append.new.self) (sym c.self.view_is)
     (drop_counts _ _ _ _ _ _ _ c.args.draft.now c.append.new.draft c.requires.node c.requires.up c.requires.held
-    (appends_at _ _ _ _ _ c.args.draft.now c.append.new.draft _ (ap (λ (n : NodeValue _). kept.Dropped n.base) c.self.view_is) c.in-On.is c.in_ok-append.ensures.appends)
+    (appends_at _ _ _ _ _ c.args.draft.now c.append.new.draft _ (ap (λ n. kept.Dropped n.base) c.self.view_is) c.in-On.is c.in_ok-append.ensures.appends)
     _ refl)
 
 pub returns-in_err-tell-in-On-clause-stuck : goal.returns-in_err-tell-in-On-clause-stuck
 returns-in_err-tell-in-On-clause-stuck g c =
     on_err_anyway _ _
     (drop_stuck _ _ _ _ _ _ _ _ c.append.new.draft c.requires.node c.requires.up c.requires.held
-    (appends_at _ _ _ _ _ c.args.draft.now c.append.new.draft _ (ap (λ (n : NodeValue _). kept.Dropped n.base) c.self.view_is) c.in-On.is c.in_ok-append.ensures.appends)
-    (ap (λ (n : NodeValue _). n.keeper) c.forget.ensures) (ap (λ (n : NodeValue _). n.base) c.forget.ensures))
+    (appends_at _ _ _ _ _ c.args.draft.now c.append.new.draft _ (ap (λ n. kept.Dropped n.base) c.self.view_is) c.in-On.is c.in_ok-append.ensures.appends)
+    (ap (λ n. n.keeper) c.forget.ensures) (ap (λ n. n.base) c.forget.ensures))
 
 pub returns-clause-ends : goal.returns-clause-ends
 returns-clause-ends g c =
     drop_ends _ _ _ _ _ _ _ c.args.draft.now c.append.new.draft c.requires.node c.requires.up c.requires.held
-    (appends_at _ _ _ _ _ c.args.draft.now c.append.new.draft _ (ap (λ (n : NodeValue _). kept.Dropped n.base) c.self.view_is) c.in-On.is c.in_ok-append.ensures.appends)
-    _ refl c.requires.past c.tell.new.self c.forget.ensures (ap (λ (n : NodeValue _). n.base) c.self.view_is)
-    (c.in_ok-tell-in-On.ensures.effects ∙ ap (λ (n : NodeValue _). c.append.new.draft.effects.items ++ effect.Dropped n.id n.base ∷ []) c.self.view_is) c.in_ok-tell-in-On.ensures.sends
+    (appends_at _ _ _ _ _ c.args.draft.now c.append.new.draft _ (ap (λ n. kept.Dropped n.base) c.self.view_is) c.in-On.is c.in_ok-append.ensures.appends)
+    _ refl c.requires.past c.tell.new.self c.forget.ensures (ap (λ n. n.base) c.self.view_is)
+    (c.in_ok-tell-in-On.ensures.effects ∙ ap (λ n. c.append.new.draft.effects.items ++ effect.Dropped n.id n.base ∷ []) c.self.view_is) c.in_ok-tell-in-On.ensures.sends

@@ -14,7 +14,7 @@ know-requires g c = record {
   room =
       let parts = learn_parts _ _ c.declarations-service.ensures.sound c.requires.kept c.requires.up c.requires.leads c.requires.next c.requires.there c.requires.value c.requires.fits c.requires.cut
       c.in_ok-copied.ensures _ c.args.draft.now c.append.new.draft _ c.in_ok-append.ensures.appends c.in-On.is in
-      omega (arith, ap (λ (x : NodeValue _). length x.known) parts, c.requires.next, c.requires.there.last);
+      omega (arith, ap (λ x. length x.known) parts, c.requires.next, c.requires.there.last);
   delta = last_spelled c.args.svc.now (whole g.P.Past.past c.args.self.now).known _ c.requires.fits;
 }
 

@@ -13,47 +13,47 @@ use Rattle.rex_node.proofs.node.Node.migrate.Goals as goal
 
 pub record_of-requires-clause-sound : goal.record_of-requires-clause-sound
 record_of-requires-clause-sound g c =
-    subst (λ (x : NodeValue _). IsSound c.args.svc.now x.start) (sym c.self.view_is)
+    subst (λ x. IsSound c.args.svc.now x.start) (sym c.self.view_is)
     (start_sound c.requires.node (sym c.migrate_refusal.ensures ∙ c.in_default.is) c.declarations-service.ensures.sound c.declarations-service.ensures.checked)
 
 pub record_of-requires-clause-limited : goal.record_of-requires-clause-limited
 record_of-requires-clause-limited g c =
-    subst (λ (x : NodeValue _). IsLimited x.start) (sym c.self.view_is)
+    subst (λ x. IsLimited x.start) (sym c.self.view_is)
     (start_limited c.requires.node (sym c.migrate_refusal.ensures ∙ c.in_default.is) c.declarations-service.ensures.sound c.declarations-service.ensures.checked)
 
 pub save_again-requires-clause-spelling : goal.save_again-requires-clause-spelling
 save_again-requires-clause-spelling g c =
-    spelling _ g.K.Keeper.append_gives g.K.Keeper.faults _ _ _ c.requires.node (sym c.migrate_refusal.ensures ∙ c.in_default.is) _ (subst (λ (x : NodeValue _). IsCheckpoint c.args.svc.now Two x.base x.start c.in_ok-rec.rec) c.self.view_is c.in_ok-rec.ensures)
+    spelling _ g.K.Keeper.append_gives g.K.Keeper.faults _ _ _ c.requires.node (sym c.migrate_refusal.ensures ∙ c.in_default.is) _ (subst (λ x. IsCheckpoint c.args.svc.now Two x.base x.start c.in_ok-rec.rec) c.self.view_is c.in_ok-rec.ensures)
 
 pub returns-in-Ok-clause-told : goal.returns-in-Ok-clause-told
 returns-in-Ok-clause-told g c =
-    migrated_does _ _ _ _ _ _ c.requires.node (sym c.migrate_refusal.ensures ∙ c.in_default.is) _ (subst (λ (x : NodeValue _). IsCheckpoint c.args.svc.now Two x.base x.start c.in_ok-rec.rec) c.self.view_is c.in_ok-rec.ensures)
-    _ (record { effects = c.in_ok-migrated.migrated; sends = c.new-sends.result }) c.new-sends.ensures (subst (MigratesOr g.K.Keeper.records g.K.Keeper.faults g.K.Keeper.append_gives (whole g.P.Past.past c.args.self.now) (whole g.P.Past.past c.save_again.new.self) (record_bytes c.in_ok-rec.rec)) c.in-Ok.is c.save_again.ensures) (c.in_ok-migrated.ensures ∙ ap (λ (x : NodeValue _). effect.Migrated x.id x.base ∷ []) c.self.view_is)
+    migrated_does _ _ _ _ _ _ c.requires.node (sym c.migrate_refusal.ensures ∙ c.in_default.is) _ (subst (λ x. IsCheckpoint c.args.svc.now Two x.base x.start c.in_ok-rec.rec) c.self.view_is c.in_ok-rec.ensures)
+    _ (record { effects = c.in_ok-migrated.migrated; sends = c.new-sends.result }) c.new-sends.ensures (subst (MigratesOr g.K.Keeper.records g.K.Keeper.faults g.K.Keeper.append_gives (whole g.P.Past.past c.args.self.now) (whole g.P.Past.past c.save_again.new.self) (record_bytes c.in_ok-rec.rec)) c.in-Ok.is c.save_again.ensures) (c.in_ok-migrated.ensures ∙ ap (λ x. effect.Migrated x.id x.base ∷ []) c.self.view_is)
 
 pub returns-in-Ok-clause-down : goal.returns-in-Ok-clause-down
 returns-in-Ok-clause-down g c =
-    migrated_down _ _ _ _ _ _ c.requires.node (sym c.migrate_refusal.ensures ∙ c.in_default.is) _ (subst (λ (x : NodeValue _). IsCheckpoint c.args.svc.now Two x.base x.start c.in_ok-rec.rec) c.self.view_is c.in_ok-rec.ensures)
-    _ (record { effects = c.in_ok-migrated.migrated; sends = c.new-sends.result }) c.new-sends.ensures (subst (MigratesOr g.K.Keeper.records g.K.Keeper.faults g.K.Keeper.append_gives (whole g.P.Past.past c.args.self.now) (whole g.P.Past.past c.save_again.new.self) (record_bytes c.in_ok-rec.rec)) c.in-Ok.is c.save_again.ensures) (c.in_ok-migrated.ensures ∙ ap (λ (x : NodeValue _). effect.Migrated x.id x.base ∷ []) c.self.view_is)
+    migrated_down _ _ _ _ _ _ c.requires.node (sym c.migrate_refusal.ensures ∙ c.in_default.is) _ (subst (λ x. IsCheckpoint c.args.svc.now Two x.base x.start c.in_ok-rec.rec) c.self.view_is c.in_ok-rec.ensures)
+    _ (record { effects = c.in_ok-migrated.migrated; sends = c.new-sends.result }) c.new-sends.ensures (subst (MigratesOr g.K.Keeper.records g.K.Keeper.faults g.K.Keeper.append_gives (whole g.P.Past.past c.args.self.now) (whole g.P.Past.past c.save_again.new.self) (record_bytes c.in_ok-rec.rec)) c.in-Ok.is c.save_again.ensures) (c.in_ok-migrated.ensures ∙ ap (λ x. effect.Migrated x.id x.base ∷ []) c.self.view_is)
 
 pub returns-in-Ok-clause-kept : goal.returns-in-Ok-clause-kept
 returns-in-Ok-clause-kept g c =
-    migrated_stays _ _ _ _ _ _ c.requires.node (sym c.migrate_refusal.ensures ∙ c.in_default.is) _ (subst (λ (x : NodeValue _). IsCheckpoint c.args.svc.now Two x.base x.start c.in_ok-rec.rec) c.self.view_is c.in_ok-rec.ensures)
-    _ (record { effects = c.in_ok-migrated.migrated; sends = c.new-sends.result }) c.new-sends.ensures (subst (MigratesOr g.K.Keeper.records g.K.Keeper.faults g.K.Keeper.append_gives (whole g.P.Past.past c.args.self.now) (whole g.P.Past.past c.save_again.new.self) (record_bytes c.in_ok-rec.rec)) c.in-Ok.is c.save_again.ensures) (c.in_ok-migrated.ensures ∙ ap (λ (x : NodeValue _). effect.Migrated x.id x.base ∷ []) c.self.view_is)
+    migrated_stays _ _ _ _ _ _ c.requires.node (sym c.migrate_refusal.ensures ∙ c.in_default.is) _ (subst (λ x. IsCheckpoint c.args.svc.now Two x.base x.start c.in_ok-rec.rec) c.self.view_is c.in_ok-rec.ensures)
+    _ (record { effects = c.in_ok-migrated.migrated; sends = c.new-sends.result }) c.new-sends.ensures (subst (MigratesOr g.K.Keeper.records g.K.Keeper.faults g.K.Keeper.append_gives (whole g.P.Past.past c.args.self.now) (whole g.P.Past.past c.save_again.new.self) (record_bytes c.in_ok-rec.rec)) c.in-Ok.is c.save_again.ensures) (c.in_ok-migrated.ensures ∙ ap (λ x. effect.Migrated x.id x.base ∷ []) c.self.view_is)
 
 pub returns-in-Err-Failed-clause-told : goal.returns-in-Err-Failed-clause-told
 returns-in-Err-Failed-clause-told g c =
-    fell_does _ _ _ _ _ _ c.requires.node (sym c.migrate_refusal.ensures ∙ c.in_default.is) _ (subst (λ (x : NodeValue _). IsCheckpoint c.args.svc.now Two x.base x.start c.in_ok-rec.rec) c.self.view_is c.in_ok-rec.ensures)
-    _ (record { effects = c.in_ok-down.down; sends = c.new-sends.result }) c.new-sends.ensures (subst (MigratesOr g.K.Keeper.records g.K.Keeper.faults g.K.Keeper.append_gives (whole g.P.Past.past c.args.self.now) (whole g.P.Past.past c.save_again.new.self) (record_bytes c.in_ok-rec.rec)) (c.in-Err-Failed.is ∙ ap Err c.in-Err-Failed.field-0-is) c.save_again.ensures) (c.in_ok-down.ensures ∙ ap (λ (x : NodeValue _). effect.Down x.id ∷ []) c.self.view_is)
+    fell_does _ _ _ _ _ _ c.requires.node (sym c.migrate_refusal.ensures ∙ c.in_default.is) _ (subst (λ x. IsCheckpoint c.args.svc.now Two x.base x.start c.in_ok-rec.rec) c.self.view_is c.in_ok-rec.ensures)
+    _ (record { effects = c.in_ok-down.down; sends = c.new-sends.result }) c.new-sends.ensures (subst (MigratesOr g.K.Keeper.records g.K.Keeper.faults g.K.Keeper.append_gives (whole g.P.Past.past c.args.self.now) (whole g.P.Past.past c.save_again.new.self) (record_bytes c.in_ok-rec.rec)) (c.in-Err-Failed.is ∙ ap Err c.in-Err-Failed.field-0-is) c.save_again.ensures) (c.in_ok-down.ensures ∙ ap (λ x. effect.Down x.id ∷ []) c.self.view_is)
 
 pub returns-in-Err-Failed-clause-down : goal.returns-in-Err-Failed-clause-down
 returns-in-Err-Failed-clause-down g c =
-    fell_down _ _ _ _ _ _ c.requires.node (sym c.migrate_refusal.ensures ∙ c.in_default.is) _ (subst (λ (x : NodeValue _). IsCheckpoint c.args.svc.now Two x.base x.start c.in_ok-rec.rec) c.self.view_is c.in_ok-rec.ensures)
-    _ (record { effects = c.in_ok-down.down; sends = c.new-sends.result }) c.new-sends.ensures (subst (MigratesOr g.K.Keeper.records g.K.Keeper.faults g.K.Keeper.append_gives (whole g.P.Past.past c.args.self.now) (whole g.P.Past.past c.save_again.new.self) (record_bytes c.in_ok-rec.rec)) (c.in-Err-Failed.is ∙ ap Err c.in-Err-Failed.field-0-is) c.save_again.ensures) (c.in_ok-down.ensures ∙ ap (λ (x : NodeValue _). effect.Down x.id ∷ []) c.self.view_is)
+    fell_down _ _ _ _ _ _ c.requires.node (sym c.migrate_refusal.ensures ∙ c.in_default.is) _ (subst (λ x. IsCheckpoint c.args.svc.now Two x.base x.start c.in_ok-rec.rec) c.self.view_is c.in_ok-rec.ensures)
+    _ (record { effects = c.in_ok-down.down; sends = c.new-sends.result }) c.new-sends.ensures (subst (MigratesOr g.K.Keeper.records g.K.Keeper.faults g.K.Keeper.append_gives (whole g.P.Past.past c.args.self.now) (whole g.P.Past.past c.save_again.new.self) (record_bytes c.in_ok-rec.rec)) (c.in-Err-Failed.is ∙ ap Err c.in-Err-Failed.field-0-is) c.save_again.ensures) (c.in_ok-down.ensures ∙ ap (λ x. effect.Down x.id ∷ []) c.self.view_is)
 
 pub returns-in-Err-Failed-clause-kept : goal.returns-in-Err-Failed-clause-kept
 returns-in-Err-Failed-clause-kept g c =
-    fell_stays _ _ _ _ _ _ c.requires.node (sym c.migrate_refusal.ensures ∙ c.in_default.is) _ (subst (λ (x : NodeValue _). IsCheckpoint c.args.svc.now Two x.base x.start c.in_ok-rec.rec) c.self.view_is c.in_ok-rec.ensures)
-    _ (record { effects = c.in_ok-down.down; sends = c.new-sends.result }) c.new-sends.ensures (subst (MigratesOr g.K.Keeper.records g.K.Keeper.faults g.K.Keeper.append_gives (whole g.P.Past.past c.args.self.now) (whole g.P.Past.past c.save_again.new.self) (record_bytes c.in_ok-rec.rec)) (c.in-Err-Failed.is ∙ ap Err c.in-Err-Failed.field-0-is) c.save_again.ensures) (c.in_ok-down.ensures ∙ ap (λ (x : NodeValue _). effect.Down x.id ∷ []) c.self.view_is)
+    fell_stays _ _ _ _ _ _ c.requires.node (sym c.migrate_refusal.ensures ∙ c.in_default.is) _ (subst (λ x. IsCheckpoint c.args.svc.now Two x.base x.start c.in_ok-rec.rec) c.self.view_is c.in_ok-rec.ensures)
+    _ (record { effects = c.in_ok-down.down; sends = c.new-sends.result }) c.new-sends.ensures (subst (MigratesOr g.K.Keeper.records g.K.Keeper.faults g.K.Keeper.append_gives (whole g.P.Past.past c.args.self.now) (whole g.P.Past.past c.save_again.new.self) (record_bytes c.in_ok-rec.rec)) (c.in-Err-Failed.is ∙ ap Err c.in-Err-Failed.field-0-is) c.save_again.ensures) (c.in_ok-down.ensures ∙ ap (λ x. effect.Down x.id ∷ []) c.self.view_is)
 
 pub returns-clause-left : goal.returns-clause-left
 returns-clause-left g c =
@@ -74,13 +74,13 @@ returns-in_err-down-clause-again g c = spells_itself
 
 pub returns-in-Ok-clause-again : goal.returns-in-Ok-clause-again
 returns-in-Ok-clause-again g c = λ rs h.
-    spells_again g.K.Keeper.append_gives g.K.Keeper.faults c.requires.node (sym c.migrate_refusal.ensures ∙ c.in_default.is) (subst (λ (x : NodeValue _). IsCheckpoint c.args.svc.now Two x.base x.start c.in_ok-rec.rec) c.self.view_is c.in_ok-rec.ensures) h
+    spells_again g.K.Keeper.append_gives g.K.Keeper.faults c.requires.node (sym c.migrate_refusal.ensures ∙ c.in_default.is) (subst (λ x. IsCheckpoint c.args.svc.now Two x.base x.start c.in_ok-rec.rec) c.self.view_is c.in_ok-rec.ensures) h
     (subst (MigratesOr g.K.Keeper.records g.K.Keeper.faults g.K.Keeper.append_gives (whole g.P.Past.past c.args.self.now) (whole g.P.Past.past c.save_again.new.self) (record_bytes c.in_ok-rec.rec)) c.in-Ok.is c.save_again.ensures).records_are
 
 pub returns-in-Err-Failed-clause-again : goal.returns-in-Err-Failed-clause-again
 returns-in-Err-Failed-clause-again g c = λ rs h.
     let k = (subst (MigratesOr g.K.Keeper.records g.K.Keeper.faults g.K.Keeper.append_gives (whole g.P.Past.past c.args.self.now) (whole g.P.Past.past c.save_again.new.self) (record_bytes c.in_ok-rec.rec)) (c.in-Err-Failed.is ∙ ap Err c.in-Err-Failed.field-0-is) c.save_again.ensures) in
-    spells_anyway g.K.Keeper.append_gives g.K.Keeper.faults c.requires.node (sym c.migrate_refusal.ensures ∙ c.in_default.is) (subst (λ (x : NodeValue _). IsCheckpoint c.args.svc.now Two x.base x.start c.in_ok-rec.rec) c.self.view_is c.in_ok-rec.ensures) h
+    spells_anyway g.K.Keeper.append_gives g.K.Keeper.faults c.requires.node (sym c.migrate_refusal.ensures ∙ c.in_default.is) (subst (λ x. IsCheckpoint c.args.svc.now Two x.base x.start c.in_ok-rec.rec) c.self.view_is c.in_ok-rec.ensures) h
     k.kept k.records
 
 pub returns-clause-again : goal.returns-clause-again

@@ -7,7 +7,7 @@ use Rattle.rex_node.specs.Parts.{whole}
 pub returns-in_ok-tell-in-Ignored-clause-ends : goal.returns-in_ok-tell-in-Ignored-clause-ends
 returns-in_ok-tell-in-Ignored-clause-ends g c =
     vote_ignored _ _ _ _ _ _ c.requires.node c.requires.up _ _ _ c.requires.from c.args.draft.now
-    (sym c.acceptance_vote.ensures ∙ c.in-Ignored.is) c.tell.new.self (c.in_ok-tell-in-Ignored.ensures.effects ∙ ap (λ (e : Effect). c.args.draft.now.effects.items ++ e ∷ []) c.told_of.ensures) c.in_ok-tell-in-Ignored.ensures.sends
+    (sym c.acceptance_vote.ensures ∙ c.in-Ignored.is) c.tell.new.self (c.in_ok-tell-in-Ignored.ensures.effects ∙ ap (λ e. c.args.draft.now.effects.items ++ e ∷ []) c.told_of.ensures) c.in_ok-tell-in-Ignored.ensures.sends
 
 pub count_acceptance-requires : goal.count_acceptance-requires
 count_acceptance-requires g c = record {

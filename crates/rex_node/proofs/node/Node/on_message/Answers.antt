@@ -21,7 +21,7 @@ come : (g : given.Over) (c : goal.After-finish g) → HasCome g.K.Keeper.records
 come g c = record {
   node = c.requires.node;
   up = up_of _ _ (sym c.up_refusal.ensures ∙ c.in_default.is);
-  many = c.len-before.ensures ∙ ap (λ (n : NodeValue _). length (g.K.Keeper.records n.keeper)) c.self.view_is;
+  many = c.len-before.ensures ∙ ap (λ n. length (g.K.Keeper.records n.keeper)) c.self.view_is;
   effects = c.new-draft.ensures.effects;
   sends = c.new-draft.ensures.sends;
   ends = c.receive-end.ensures.ends;
@@ -32,7 +32,7 @@ come g c = record {
 
 pub receive-end-requires-clause-runs : goal.receive-end-requires-clause-runs
 receive-end-requires-clause-runs g c =
-    subst (λ (d : CallHere). values_fit c.args.svc.now (known (receive c.args.self.now.nodes (service_of c.args.svc.now c.args.self.now.seed) c.args.self.now.id c.args.message.now.from (content_in g.P.Past.past c.args.message.now.content) d).node.log) ≡ true)
+    subst (λ d. values_fit c.args.svc.now (known (receive c.args.self.now.nodes (service_of c.args.svc.now c.args.self.now.seed) c.args.self.now.id c.args.message.now.from (content_in g.P.Past.past c.args.message.now.content) d).node.log) ≡ true)
     (sym (begins g.K.Keeper.records c.args.svc.now g.P.Past.past (whole g.P.Past.past c.args.self.now) c.new-draft.result c.new-draft.ensures.effects c.new-draft.ensures.sends))
     c.requires.runs
 

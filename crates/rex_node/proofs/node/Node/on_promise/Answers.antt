@@ -66,7 +66,7 @@ returns-in-Err-go_on-clause-stuck g c =
 pub returns-in_err-tell-in-Ignored-clause-stuck : goal.returns-in_err-tell-in-Ignored-clause-stuck
 returns-in_err-tell-in-Ignored-clause-stuck g c =
     on_err _
-    (subst (λ (n : NodeValue _). IsStuck g.K.Keeper.records g.K.Keeper.append_gives g.K.Keeper.faults c.args.svc.now g.P.Past.past (λ d. on_promise c.args.self.now.nodes (service_of c.args.svc.now c.args.self.now.seed) c.args.self.now.id c.args.from c.args.ballot (map proposal_in c.args.reported.now) d d.node.role) (whole g.P.Past.past c.args.self.now) n c.args.draft.now)
+    (subst (λ n. IsStuck g.K.Keeper.records g.K.Keeper.append_gives g.K.Keeper.faults c.args.svc.now g.P.Past.past (λ d. on_promise c.args.self.now.nodes (service_of c.args.svc.now c.args.self.now.seed) c.args.self.now.id c.args.from c.args.ballot (map proposal_in c.args.reported.now) d d.node.role) (whole g.P.Past.past c.args.self.now) n c.args.draft.now)
     (sym (ignored_same g.K.Keeper.append_gives g.K.Keeper.faults c.requires.node c.requires.up _ c.requires.from _ c.requires.reported c.args.draft.now (sym c.in_ok-why.ensures.vote ∙ c.in-Ignored.is)
     c.in_ok-why.ensures.counted))
     (inl (stands_same)))

@@ -16,6 +16,6 @@ own_piece-requires-clause-spelling g c =
 
 pub returns-in-None-clause-refused : goal.returns-in-None-clause-refused
 returns-in-None-clause-refused g c =
-    subst (λ (o : Option Refusal). RefusesThen o (refusal_of_none (below (greatest_cut (counts_for c.args.svc.now (here_of g.K.Keeper.records c.args.svc.now g.P.Past.past (whole g.P.Past.past c.args.self.now)) (option_copied c.args.limits)) (here_of g.K.Keeper.records c.args.svc.now g.P.Past.past (whole g.P.Past.past c.args.self.now)).work.live) (here_of g.K.Keeper.records c.args.svc.now g.P.Past.past (whole g.P.Past.past c.args.self.now)).work.live)) c.own_piece.result)
+    subst (λ o. RefusesThen o (refusal_of_none (below (greatest_cut (counts_for c.args.svc.now (here_of g.K.Keeper.records c.args.svc.now g.P.Past.past (whole g.P.Past.past c.args.self.now)) (option_copied c.args.limits)) (here_of g.K.Keeper.records c.args.svc.now g.P.Past.past (whole g.P.Past.past c.args.self.now)).work.live) (here_of g.K.Keeper.records c.args.svc.now g.P.Past.past (whole g.P.Past.past c.args.self.now)).work.live)) c.own_piece.result)
     (sym (sym c.cut_refusal.ensures.why ∙ c.in-None.is))
     (refuses_node c.requires.node (up_of _ _ (sym c.cut_refusal.ensures.why ∙ c.in-None.is)) _ _ c.own_piece.ensures)

@@ -13,7 +13,7 @@ propose_value-end-requires-clause-cut g c =
 pub propose_value-end-requires-clause-fits : goal.propose_value-end-requires-clause-fits
 propose_value-end-requires-clause-fits g c =
     own_fits c.requires.node c.requires.can c.declarations-service.ensures.sound
-    (ap (λ (z : NodeValue _). z.known) c.replace_cut-before.ensures.replaced) c.as_slice.ensures
+    (ap (λ z. z.known) c.replace_cut-before.ensures.replaced) c.as_slice.ensures
 
 pub returns-clause-ends : goal.returns-clause-ends
 returns-clause-ends g c =

@@ -10,8 +10,8 @@ use Rattle.rex_node.proofs.node.Node.propose_value.Goals as goal
 pub returns-then-has_open-clause-ends : goal.returns-then-has_open-clause-ends
 returns-then-has_open-clause-ends g c =
     let s = some_of _ c.requires.active in
-    let next : c.count-instance.result + 1 ≡ length (knows g.P.Past.past c.args.self.now) + 1 = ap (λ (n : ℕ). n + 1) c.count-instance.ensures.known in
-    let told = told_same (ap (λ (z : NodeValue _). z.id) c.self.view_is) next in
+    let next : c.count-instance.result + 1 ≡ length (knows g.P.Past.past c.args.self.now) + 1 = ap (λ n. n + 1) c.count-instance.ensures.known in
+    let told = told_same (ap (λ z. z.id) c.self.view_is) next in
     cut_waits _ _ _ _ _ c.requires.node c.requires.up s.1 _ told next
     _ c.args.draft.now c.propose.new.draft
     (rw c.in-On.is at c.in_ok-propose.ensures.opens) (rw c.in-On.is at c.in_ok-propose.ensures.parts) (sym c.has_open.ensures ∙ c.if-has_open.true)
@@ -19,8 +19,8 @@ returns-then-has_open-clause-ends g c =
 pub returns-in-Down-clause-ends : goal.returns-in-Down-clause-ends
 returns-in-Down-clause-ends g c =
     let s = some_of _ c.requires.active in
-    let next : c.count-instance.result + 1 ≡ length (knows g.P.Past.past c.args.self.now) + 1 = ap (λ (n : ℕ). n + 1) c.count-instance.ensures.known in
-    let told = told_same (ap (λ (z : NodeValue _). z.id) c.self.view_is) next in
+    let next : c.count-instance.result + 1 ≡ length (knows g.P.Past.past c.args.self.now) + 1 = ap (λ n. n + 1) c.count-instance.ensures.known in
+    let told = told_same (ap (λ z. z.id) c.self.view_is) next in
     cut_fell _ _ _ _ _ c.requires.node c.requires.up s.1 _ told next
     _ c.args.draft.now c.propose.new.draft
     (rw c.in-Down.is at c.in_ok-propose.ensures.opens) c.propose.ensures.same
@@ -28,8 +28,8 @@ returns-in-Down-clause-ends g c =
 pub learn-requires-clause-kept : goal.learn-requires-clause-kept
 learn-requires-clause-kept g c =
     let s = some_of _ c.requires.active in
-    let next : c.count-instance.result + 1 ≡ length (knows g.P.Past.past c.args.self.now) + 1 = ap (λ (n : ℕ). n + 1) c.count-instance.ensures.known in
-    let told = told_same (ap (λ (z : NodeValue _). z.id) c.self.view_is) next in
+    let next : c.count-instance.result + 1 ≡ length (knows g.P.Past.past c.args.self.now) + 1 = ap (λ n. n + 1) c.count-instance.ensures.known in
+    let told = told_same (ap (λ z. z.id) c.self.view_is) next in
     let l = idle_leads c.args.self.now.acceptor _ c.requires.idle in
     kept_between _ _ _ _ _ c.requires.node c.requires.up s.1 _ told next
     _ c.args.draft.now c.propose.new.draft
@@ -38,18 +38,18 @@ learn-requires-clause-kept g c =
 pub learn-requires-clause-count : goal.learn-requires-clause-count
 learn-requires-clause-count g c =
     let s = some_of _ c.requires.active in
-    let next : c.count-instance.result + 1 ≡ length (knows g.P.Past.past c.args.self.now) + 1 = ap (λ (n : ℕ). n + 1) c.count-instance.ensures.known in
-    let told = told_same (ap (λ (z : NodeValue _). z.id) c.self.view_is) next in
+    let next : c.count-instance.result + 1 ≡ length (knows g.P.Past.past c.args.self.now) + 1 = ap (λ n. n + 1) c.count-instance.ensures.known in
+    let told = told_same (ap (λ z. z.id) c.self.view_is) next in
     let l = idle_leads c.args.self.now.acceptor _ c.requires.idle in
-    subst (λ (n : ℕ). n < 2 ^ 64 - 1) (sym (counted_between _ _ _ _ _ c.requires.node c.requires.up s.1 _ told next
+    subst (λ n. n < 2 ^ 64 - 1) (sym (counted_between _ _ _ _ _ c.requires.node c.requires.up s.1 _ told next
     _ c.args.draft.now c.propose.new.draft
     (rw c.in-On.is at c.in_ok-propose.ensures.opens) (rw c.in-On.is at c.in_ok-propose.ensures.parts) l.1)) c.requires.count
 
 pub returns-in_err-propose-clause-stuck : goal.returns-in_err-propose-clause-stuck
 returns-in_err-propose-clause-stuck g c =
     let s = some_of _ c.requires.active in
-    let next : c.count-instance.result + 1 ≡ length (knows g.P.Past.past c.args.self.now) + 1 = ap (λ (n : ℕ). n + 1) c.count-instance.ensures.known in
-    let told = told_same (ap (λ (z : NodeValue _). z.id) c.self.view_is) next in
+    let next : c.count-instance.result + 1 ≡ length (knows g.P.Past.past c.args.self.now) + 1 = ap (λ n. n + 1) c.count-instance.ensures.known in
+    let told = told_same (ap (λ z. z.id) c.self.view_is) next in
     on_err _
     (cut_short _ _ _ _ _ c.requires.node c.requires.up s.1 _ told next
     _ _ c.propose.new.draft c.in_err-propose.ensures.stuck)
@@ -57,8 +57,8 @@ returns-in_err-propose-clause-stuck g c =
 pub returns-else-has_open-clause-stuck : goal.returns-else-has_open-clause-stuck
 returns-else-has_open-clause-stuck g c =
     let s = some_of _ c.requires.active in
-    let next : c.count-instance.result + 1 ≡ length (knows g.P.Past.past c.args.self.now) + 1 = ap (λ (n : ℕ). n + 1) c.count-instance.ensures.known in
-    let told = told_same (ap (λ (z : NodeValue _). z.id) c.self.view_is) next in
+    let next : c.count-instance.result + 1 ≡ length (knows g.P.Past.past c.args.self.now) + 1 = ap (λ n. n + 1) c.count-instance.ensures.known in
+    let told = told_same (ap (λ z. z.id) c.self.view_is) next in
     on_error _
     _ _
     (cut_stuck _ _ _ _ _ c.requires.node c.requires.up s.1 _ told next
@@ -68,8 +68,8 @@ returns-else-has_open-clause-stuck g c =
 pub returns-else-has_open-clause-ends : goal.returns-else-has_open-clause-ends
 returns-else-has_open-clause-ends g c =
     let s = some_of _ c.requires.active in
-    let next : c.count-instance.result + 1 ≡ length (knows g.P.Past.past c.args.self.now) + 1 = ap (λ (n : ℕ). n + 1) c.count-instance.ensures.known in
-    let told = told_same (ap (λ (z : NodeValue _). z.id) c.self.view_is) next in
+    let next : c.count-instance.result + 1 ≡ length (knows g.P.Past.past c.args.self.now) + 1 = ap (λ n. n + 1) c.count-instance.ensures.known in
+    let told = told_same (ap (λ z. z.id) c.self.view_is) next in
     if_both _
     _
     _ _

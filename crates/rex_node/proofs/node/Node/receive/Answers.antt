@@ -57,5 +57,5 @@ pub returns-in-Snapshot-clause-stuck : goal.returns-in-Snapshot-clause-stuck
 returns-in-Snapshot-clause-stuck g c =
     let x = c.args.self.now in
     subst
-    (λ (content : Content). OnErr c.on_snapshot.result (IsStuck g.K.Keeper.records g.K.Keeper.append_gives g.K.Keeper.faults c.args.svc.now g.P.Past.past (receive x.nodes (service_of c.args.svc.now x.seed) x.id c.args.message.now.from (content_in g.P.Past.past content)) (whole g.P.Past.past x) (whole g.P.Past.past c.on_snapshot.new.self) c.args.draft.now))
+    (λ content. OnErr c.on_snapshot.result (IsStuck g.K.Keeper.records g.K.Keeper.append_gives g.K.Keeper.faults c.args.svc.now g.P.Past.past (receive x.nodes (service_of c.args.svc.now x.seed) x.id c.args.message.now.from (content_in g.P.Past.past content)) (whole g.P.Past.past x) (whole g.P.Past.past c.on_snapshot.new.self) c.args.draft.now))
     (sym c.in-Snapshot.is) c.on_snapshot.ensures.stuck

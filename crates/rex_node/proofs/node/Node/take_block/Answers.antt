@@ -9,14 +9,14 @@ use Rattle.rex_node.specs.Parts.{NodeValue, whole}
 
 pub take_block-requires-clause-runs : goal.take_block-requires-clause-runs
 take_block-requires-clause-runs g c =
-    subst (λ (s : StateValue). run c.args.svc.now s c.args.events.now ≡ Some c.args.state)
-    (live_state_of (ap (λ (x : NodeValue _). whole g.P.Past.past x) c.self.view_is) c.requires.node _ (sym c.active_refusal.ensures.why ∙ c.in_default.is) (sym c.in-Some-acting.is))
+    subst (λ s. run c.args.svc.now s c.args.events.now ≡ Some c.args.state)
+    (live_state_of (ap (λ x. whole g.P.Past.past x) c.self.view_is) c.requires.node _ (sym c.active_refusal.ensures.why ∙ c.in_default.is) (sym c.in-Some-acting.is))
     c.requires.runs
 
 pub returns-clause-node : goal.returns-clause-node
 returns-clause-node g c =
-    block_leads (ap (λ (x : NodeValue _). whole g.P.Past.past x) c.self.view_is) c.requires.node _ (sym c.active_refusal.ensures.why ∙ c.in_default.is) (sym c.in-Some-acting.is) c.declarations-service.ensures.sound c.args.events.now c.in_ok-take_block.ensures.ok
+    block_leads (ap (λ x. whole g.P.Past.past x) c.self.view_is) c.requires.node _ (sym c.active_refusal.ensures.why ∙ c.in_default.is) (sym c.in-Some-acting.is) c.declarations-service.ensures.sound c.args.events.now c.in_ok-take_block.ensures.ok
 
 pub returns-clause-kept : goal.returns-clause-kept
 returns-clause-kept g c =
-    block_stays (ap (λ (x : NodeValue _). whole g.P.Past.past x) c.self.view_is) c.requires.node _ (sym c.active_refusal.ensures.why ∙ c.in_default.is) (sym c.in-Some-acting.is) c.declarations-service.ensures.sound c.args.events.now c.in_ok-take_block.ensures.ok
+    block_stays (ap (λ x. whole g.P.Past.past x) c.self.view_is) c.requires.node _ (sym c.active_refusal.ensures.why ∙ c.in_default.is) (sym c.in-Some-acting.is) c.declarations-service.ensures.sound c.args.events.now c.in_ok-take_block.ensures.ok
