@@ -55,7 +55,7 @@ module _ {service : Declarations} {past : List Value} {seed nodes number : ℕ} 
     module _ (call : CallHere → CallHere) (step : Step) where
       -- where the node is still up no append has failed, so that its keeper needn't be reopened if it needn't before
       unbroken : Does records_of follows (λ k. k.faults) service past call old new step → EndsDown old.id old.keeper.faults new.keeper.faults new.up step → old.up ≡ true → new.up ≡ true → new.keeper.broken ≡ false
-      unbroken (inl h) ends was up = stays_broken old.keeper new.keeper h.written h.appends ∙ member.whole was
+      unbroken (inl h) ends was up = stays_broken _ _ h.written h.appends ∙ member.whole was
       unbroken (inr h) ends was up = absurd (let no : false ≡ true = sym (ends.falls h.counted) ∙ up in cc)
 
       -- so it stays after a call

@@ -42,5 +42,5 @@ holds_of_longest P (x ∷ xs) none each = either (nat_lt (length (known x.log)) 
 -- no more values are agreed on than there are instances
 pub agreed_few : {S : Type 0} → {service : Declarations} {w : World S} → IsRunning service w → length (agreed (world_of service w)) ≤ 65535
 agreed_few {service} {w} h =
-    holds_of_longest (λ (vs : List Value). length vs ≤ 65535) (world_of service w).nodes (omega arith)
+    holds_of_longest (λ (vs : List Value). length vs ≤ 65535) _ (omega arith)
     (λ m there. (h.kept.numbers.nodes m (subst (λ (n : ℕ). IsNode n m) h.kept.world.many there)).log.few)

@@ -57,7 +57,7 @@ module _ {S : Type 0} {service : Declarations} {w : World S} (h : IsRunning serv
       → {seen : Vec ℕ} → seen.items ≡ slice_set w.seen.items client next → {told told2 : Told} {e : Effect} → e ≡ read_effect m client variable answer → told2.effects.items ≡ told.effects.items ++ e ∷ [] → told2.sent.items ≡ told.sent.items
       → ComesTo service w (record w { seen = seen }) told told2 (step_in service w (ReadVariable m client variable))
   read_came m {client} variable few x x_is {now} {next} now_is {answer} answer_is next_is {seen} saw {told} e_is effects sent =
-      let was : now ≡ get_or w.seen.items client 0 = now_is ∙ number_there w.seen.items client now 0 (let many = h.clients in omega (arith, few, many)) in
+      let was : now ≡ get_or w.seen.items client 0 = now_is ∙ number_there _ client now 0 (let many = h.clients in omega (arith, few, many)) in
       let is : answer ≡ read_at service (node_at (heres service w.agreed w.nodes.items) m) variable (get_or w.seen.items client 0) =
       answer_is ∙ ap (λ (y : Here). read_at service y variable now) (sym x_is) ∙ ap (read_at service (node_at (heres service w.agreed w.nodes.items) m) variable) was in
       record {

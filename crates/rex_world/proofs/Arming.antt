@@ -108,22 +108,22 @@ module _ {S : Type 0} (service : Declarations) (w : World S) (h : IsRunning serv
 
   heres_after : heres service w.agreed nodes.items ≡ put (heres service w.agreed w.nodes.items) m (record (node_at (heres service w.agreed w.nodes.items) m) { armed = Some (After 0 kept) })
   heres_after =
-      now_put w.nodes.items there (armed_member (fate_if kept) x) x_is nodes_so service w.agreed
-      ∙ ap (put (heres service w.agreed w.nodes.items) m) (here_armed service w.agreed kept x ∙ ap (λ (z : Here). let a : Here = record z { armed = Some (After 0 kept) } in a) (sym (at_old w.nodes.items there (armed_member (fate_if kept) x) x_is nodes_so service w.agreed)))
+      now_put _ there _ x_is nodes_so service w.agreed
+      ∙ ap (put (heres service w.agreed w.nodes.items) m) (here_armed service w.agreed kept x ∙ ap (λ (z : Here). let a : Here = record z { armed = Some (After 0 kept) } in a) (sym (at_old _ there _ x_is nodes_so service w.agreed)))
 
   pub arming_world : world_of service after ≡ (row service w.requests w.seed (nodes_of w) (world_of service w) (KeepFail m kept)).world
-  arming_world = arming_row service w.requests w.seed (nodes_of w) (world_of service w) m kept heres_after
+  arming_world = arming_row service w.requests w.seed (nodes_of w) _ m kept heres_after
 
   pub many : length nodes.items ≡ nodes_of w
-  many = many_are w.nodes.items there (armed_member (fate_if kept) x) x_is nodes_so
+  many = many_are _ there _ x_is nodes_so
 
   pub arming_running : IsRunning service after
   arming_running =
-      let k = old_within w.nodes.items there (armed_member (fate_if kept) x) x_is nodes_so h.within in
+      let k = old_within _ there _ x_is nodes_so h.within in
       let l = faults_armed (fate_if kept) x in
-      let was : IsMember service w.agreed w.seed (nodes_of w) m x = old_member w.nodes.items there (armed_member (fate_if kept) x) x_is nodes_so service w.agreed w.seed (nodes_of w) h.members in
+      let was : IsMember service w.agreed w.seed (nodes_of w) m x = old_member _ there _ x_is nodes_so service w.agreed w.seed _ h.members in
       let all : AreMembers service w.agreed w.seed (nodes_of w) 1 nodes.items =
-      new_members w.nodes.items there (armed_member (fate_if kept) x) x_is nodes_so service w.agreed w.seed (nodes_of w) h.members (member_armed was (omega arith)) in
+      new_members _ there _ x_is nodes_so service w.agreed w.seed _ h.members (member_armed was (omega arith)) in
       record {
         service_is = h.service_is;
         checked = h.checked;
@@ -131,9 +131,9 @@ module _ {S : Type 0} (service : Declarations) (w : World S) (h : IsRunning serv
         few = subst (λ (n : ℕ). n ≤ most_nodes) (sym many) h.few;
         agreed = h.agreed ∙ sym (arming_agreed service w.requests w.seed (nodes_of w) (world_of service w) m kept) ∙ ap agreed (sym arming_world);
         kept = subst (λ (n : ℕ). IsKept service w.seed n (world_of service after)) (sym many)
-            (subst (IsKept service w.seed (nodes_of w)) (sym arming_world) (row_kept service h.service_is h.checked w.requests h.requests w.seed (nodes_of w) h.few (world_of service w) (KeepFail m kept) there h.kept));
+            (subst (IsKept service w.seed (nodes_of w)) (sym arming_world) (row_kept service h.service_is h.checked _ h.requests w.seed _ h.few _ (KeepFail m kept) there h.kept));
         members = subst (λ (n : ℕ). AreMembers service w.agreed w.seed n 1 nodes.items) (sym many) all;
-        within = new_within w.nodes.items there (armed_member (fate_if kept) x) x_is nodes_so (within_more w.nodes.items h.within (omega arith)) (omega arith);
+        within = new_within _ there _ x_is nodes_so (within_more _ h.within (omega arith)) (omega arith);
         spelled = h.spelled;
         told = h.told;
         requests = h.requests;
@@ -157,7 +157,7 @@ counted_running {w} h = record {
     handed = h.kept.handed;
   };
   members = h.members;
-  within = within_more w.nodes.items h.within (omega arith);
+  within = within_more _ h.within (omega arith);
   spelled = h.spelled;
   told = h.told;
   requests = h.requests;

@@ -47,7 +47,7 @@ pub new_next : {service : Declarations} {seed nodes number : ℕ} {xs : List Mem
 new_next {service} {seed} {nodes} {number} {xs} {x} h e one none =
     let n : number + 1 ≡ 1 + length xs = omega (arith, h.many) in
     record {
-      here = heres_both service [] xs (x ∷ []) ∙ ap (λ (ys : List Here). ys ++ here_at service [] x ∷ []) h.here ∙ ap (λ (y : Here). replicate number new_node ++ y ∷ []) e ∙ sym (replicate_next number new_node);
+      here = heres_both service [] xs _ ∙ ap (λ (ys : List Here). ys ++ here_at service [] x ∷ []) h.here ∙ ap (λ (y : Here). replicate number new_node ++ y ∷ []) e ∙ sym (replicate_next number new_node);
       are = members_more 1 xs h.are (subst (λ (m : ℕ). IsMember service [] seed nodes m x) n one);
       within = within_next xs x h.within none;
       many = length-append xs (x ∷ []) ∙ ap (λ (k : ℕ). k + 1) h.many;
@@ -62,7 +62,7 @@ both true e = (refl, e)
 both false e = absurd cc
 
 pub few_nodes : {n : ℕ} → is_node_count n ≡ true → n ≤ most_nodes
-few_nodes {n} h = leb-true n most_nodes (both (n % 2 == 1) h).1
+few_nodes {n} h = leb-true n most_nodes (both _ h).1
 
 abbrev model_of : ℕ → List Here → List (Message Value) → List Bool → List ℕ → ModelWorld
 model_of done nodes messages handed seen = record { done = done; nodes = nodes; messages = messages; handed = handed; seen = seen }
@@ -92,7 +92,7 @@ new_running {service} {n} {w} few good checked fit h none net handed seen done f
       few = omega (arith, h.many);
       agreed = none ∙ sym (none_agreed n) ∙ ap agreed (sym (begins w h none net handed seen done));
       kept = subst (λ (k : ℕ). IsKept service w.seed k (world_of service w)) (sym h.many)
-          (subst (λ (x : ModelWorld). IsKept service w.seed n x) (sym (begins w h none net handed seen done)) (beginning_kept service good checked w.requests fit w.seed n few));
+          (subst (λ (x : ModelWorld). IsKept service w.seed n x) (sym (begins w h none net handed seen done)) (beginning_kept service good checked _ fit w.seed n few));
       members = subst (λ (k : ℕ). AreMembers service w.agreed w.seed k 1 w.nodes.items) (sym h.many) (subst (λ (vs : List Value). AreMembers service vs w.seed n 1 w.nodes.items) (sym none) h.are);
       within = subst (λ (k : ℕ). AreWithin k w.nodes.items) (sym done) h.within;
       spelled = subst (λ (ms : List (List ℕ)). All IsSpelled ms) (sym net) (All-nil IsSpelled);

@@ -107,7 +107,7 @@ module _ (service : Declarations) (past : List Value) where
 
   takes_behind : (lists : List (List ℕ)) (log : List (Rec Value StateValue)) → TakesFirst log → TakesFirst (log_behind service past log lists)
   takes_behind [] log h = h
-  takes_behind (bytes ∷ lists) log h = takes_behind lists (log_with service past log (record_in (standing_in log) bytes)) (takes_with log (record_in (standing_in log) bytes) h)
+  takes_behind (bytes ∷ lists) log h = takes_behind lists _ (takes_with log _ h)
 
   takes_first : (lists : List (List ℕ)) → TakesFirst (log_of service past lists)
   takes_first lists = takes_behind lists [] (λ values s there. absurd there)
@@ -170,7 +170,7 @@ module _ (service : Declarations) (past : List Value) where
     pub messages_grown : (net : List (List ℕ)) → All (TellsRightly service past) net → All (TellsRightly service values) net × (messages_of values net ≡ messages_of past net)
     messages_grown [] h = (All-nil (TellsRightly service values), refl)
     messages_grown (bytes ∷ net) h =
-        let one = read_grown (read_in bytes) (All-head (TellsRightly service past) bytes net h).tells in
+        let one = read_grown _ (All-head (TellsRightly service past) bytes net h).tells in
         let others = messages_grown net (All-tail (TellsRightly service past) bytes net h) in (
           All-cons (TellsRightly service values) bytes net (record { tells = one.0 }) others.0,
           ap (λ (m : Message Value). m ∷ messages_of values net) one.1 ∙ ap (λ (ms : List (Message Value)). message_of past bytes ∷ ms) others.1,

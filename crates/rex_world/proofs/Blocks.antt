@@ -41,14 +41,14 @@ use Rattle.rex_world.proofs.Placed.{at_old, many_here}
 armed_each : (service : Declarations) (es : List Event) (h : Here) {a : Option Failure}
     → (take_each service es (begin (let m : Here = record h { armed = a } in m))).node ≡ (let m : Here = record (take_each service es (begin h)).node { armed = a } in m)
 armed_each service [] h = refl
-armed_each service (e ∷ es) h {a} = armed_each service es (take_event service e (begin h)).node
+armed_each service (e ∷ es) h {a} = armed_each service es _
 
 module _ (service : Declarations) (past : List Value) (x y : NodeValue KeeperValue) (es : List Event) (keeper : y.keeper ≡ x.keeper) where
   leads : LeadsTo (take_each service es) (here_of records_of service past x) (here_of records_of service past y) → LeadsTo (take_each service es) (here_at service past x) (here_at service past y)
   leads h =
       ap (λ (n : Here). let m : Here = record n { armed = armed_of y.keeper.armed } in m) h
       ∙ ap (λ (k : KeeperValue). let m : Here = record (take_each service es (begin (here_of records_of service past x))).node { armed = armed_of k.armed } in m) keeper
-      ∙ sym (armed_each service es (here_of records_of service past x))
+      ∙ sym (armed_each service es _)
 
   pub block_handed : (outcome : Result (Unit {0}) Refusal) → Refuses (refusal_active (here_of records_of service past x)) outcome
       → OnOk outcome (LeadsTo (take_each service es) (here_of records_of service past x) (here_of records_of service past y)) → OnErr outcome (y ≡ x) → IsHandedBlock service es (here_at service past x) (here_at service past y) outcome
@@ -75,15 +75,15 @@ module _ (service : Declarations) (requests : List Request) (seed n m : ℕ) whe
       → with_node w m (take_each service es (begin (node_at w.nodes m))).node ≡ after_doings service requests seed n w (takes_at m es)
   takes_are [] w there up active = ap (λ (xs : List Here). let v : ModelWorld = record w { nodes = xs } in v) (put_same w.nodes m)
   takes_are (e ∷ es) w there up active =
-      ap (λ (xs : List Here). let v : ModelWorld = record w { nodes = xs } in v) (sym (put_again w.nodes m (take_event service e (begin (node_at w.nodes m))).node (take_each service es (begin (take_event service e (begin (node_at w.nodes m))).node)).node))
+      ap (λ (xs : List Here). let v : ModelWorld = record w { nodes = xs } in v) (sym (put_again w.nodes m _ _))
       ∙ ap (λ (h : Here). with_node (with_node w m (take_event service e (begin (node_at w.nodes m))).node) m (take_each service es (begin h)).node) (sym at_first)
-      ∙ takes_are es (with_node w m (take_event service e (begin (node_at w.nodes m))).node) (subst (λ (k : ℕ). IsNode k m) (sym (put_length w.nodes m (take_event service e (begin (node_at w.nodes m))).node)) there)
+      ∙ takes_are es _ (subst (λ (k : ℕ). IsNode k m) (sym (put_length w.nodes m _)) there)
       (ap (λ (h : Here). h.up) at_first ∙ up) (ap (λ (h : Here). is_active h.role) at_first ∙ active)
       ∙ ap (λ (v : ModelWorld). after_doings service requests seed n v (takes_at m es)) (take_is service w m e up active)
     where
       at_first : node_at (put w.nodes m (take_event service e (begin (node_at w.nodes m))).node) m ≡ (take_event service e (begin (node_at w.nodes m))).node
       at_first =
-          node_put w.nodes m (take_event service e (begin (node_at w.nodes m))).node m there
+          node_put w.nodes m _ m there
           ∙ ap (λ (b : Bool). cond b (take_event service e (begin (node_at w.nodes m))).node (node_at w.nodes m)) (eq-eqb m m refl)
 
 -- a kept world of which a node is handed events is kept
@@ -95,7 +95,7 @@ block_kept {service} requests {seed} {n} {m} (e ∷ es) {w} few good checked the
 
 takes_agreed : (service : Declarations) (requests : List Request) (seed n m : ℕ) (es : List Event) (w : ModelWorld) → agreed (after_doings service requests seed n w (takes_at m es)) ≡ agreed w
 takes_agreed service requests seed n m [] w = refl
-takes_agreed service requests seed n m (e ∷ es) w = takes_agreed service requests seed n m es (take service w m e) ∙ take_agreed service w m e
+takes_agreed service requests seed n m (e ∷ es) w = takes_agreed service requests seed n m es _ ∙ take_agreed service w m e
 
 ok_due : (due : Option Refusal) {t : Unit {0}} → Refuses due (Ok t) → due ≡ None
 ok_due None h = refl
@@ -113,7 +113,7 @@ module _ {S : Type 0} {service : Declarations} {w : World S} (h : IsRunning serv
   Handed outcome = IsHandedBlock service es (here_at service w.agreed old) (here_at service w.agreed new) outcome
 
   handed_was : {outcome : Result (Unit {0}) Refusal} → Handed outcome → IsHandedBlock service es (node_at before.nodes m) (here_at service w.agreed new) outcome
-  handed_was {outcome} a = subst (λ (x : Here). IsHandedBlock service es x (here_at service w.agreed new) outcome) (sym (at_old w.nodes.items there new old_is nodes_are service w.agreed)) a
+  handed_was {outcome} a = subst (λ (x : Here). IsHandedBlock service es x (here_at service w.agreed new) outcome) (sym (at_old _ there new old_is nodes_are service w.agreed)) a
 
   pub block_refused : {outcome : Result (Unit {0}) Refusal} → Handed outcome → Refuses (refusal_active (node_at before.nodes m)) outcome
   block_refused {outcome} a = (handed_was a).refused
@@ -122,9 +122,9 @@ module _ {S : Type 0} {service : Declarations} {w : World S} (h : IsRunning serv
   block_world broken (Err r) a = tt
   block_world broken (Ok t) a =
       let c = handed_was a in
-      let n = none_refused (node_at before.nodes m) (ok_due (refusal_active (node_at before.nodes m)) c.refused) in
+      let n = none_refused (node_at before.nodes m) (ok_due _ c.refused) in
       given_put h there nodes old_is nodes_are stays broken c.takes
-      ∙ takes_are service w.requests w.seed (nodes_of w) m es before (subst (λ (k : ℕ). IsNode k m) (sym (many_here service w.agreed w.nodes.items)) there) n.0 n.1
+      ∙ takes_are service _ w.seed _ m es before (subst (λ (k : ℕ). IsNode k m) (sym (many_here service w.agreed _)) there) n.0 n.1
 
   pub block_unchanged : (broken : Bool) (outcome : Result (Unit {0}) Refusal) → Handed outcome → OnErr outcome (world_of service (later broken) ≡ before)
   block_unchanged broken (Ok t) a = tt
@@ -133,8 +133,8 @@ module _ {S : Type 0} {service : Declarations} {w : World S} (h : IsRunning serv
   pub block_running : All BeginsInRange es → (outcome : Result (Unit {0}) Refusal) → Handed outcome → IsRunning service (later w.broken)
   block_running begins (Ok t) a =
       given_running h there nodes old_is nodes_are stays
-      (subst (IsKept service w.seed (nodes_of w)) (sym (block_world w.broken (Ok t) a)) (block_kept w.requests es h.few h.service_is h.checked there begins h.kept))
-      (h.agreed ∙ sym (takes_agreed service w.requests w.seed (nodes_of w) m es before) ∙ ap agreed (sym (block_world w.broken (Ok t) a)))
+      (subst (IsKept service w.seed (nodes_of w)) (sym (block_world w.broken (Ok t) a)) (block_kept _ es h.few h.service_is h.checked there begins h.kept))
+      (h.agreed ∙ sym (takes_agreed service _ w.seed _ m es before) ∙ ap agreed (sym (block_world w.broken (Ok t) a)))
   block_running begins (Err r) a =
       given_running h there nodes old_is nodes_are stays (subst (IsKept service w.seed (nodes_of w)) (sym (block_unchanged w.broken (Err r) a)) h.kept)
       (h.agreed ∙ ap agreed (sym (block_unchanged w.broken (Err r) a)))

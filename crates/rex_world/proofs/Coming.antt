@@ -160,7 +160,7 @@ module _ {S : Type 0} {service : Declarations} {w w2 : World S} (h : IsRunning s
       ∙ ap (λ (es : List Effect). seen_by_releases (stamp_at d.node) es w.seen.items) come.effects
 
   messages_after : messages_of w.agreed w2.net ≡ messages_of w.agreed w.net ++ map (message_in w.agreed) step.sends
-  messages_after = ap (messages_of w.agreed) tells.sends.net ∙ messages_both w.agreed w.net (map spelling_of step.sends) ∙ ap (λ (ms : List (Message Value)). messages_of w.agreed w.net ++ ms) (read_again w.agreed step.sends tells.sends.spelled)
+  messages_after = ap (messages_of w.agreed) tells.sends.net ∙ messages_both w.agreed w.net _ ∙ ap (λ (ms : List (Message Value)). messages_of w.agreed w.net ++ ms) (read_again w.agreed _ tells.sends.spelled)
 
   -- the world is the one of the model after the call
   world_after : world_of service w2 ≡ (after (world_of service w) m d).world
@@ -176,7 +176,7 @@ module _ {S : Type 0} {service : Declarations} {w w2 : World S} (h : IsRunning s
   did_after = record {
     world = world_after;
     effects = tells.effects ∙ ap (λ (es : List Effect). told.effects.items ++ es) come.effects;
-    sent = tells.sends.sent ∙ ap (λ (es : List Effect). told.sent.items ++ es) (sent_alike w.agreed (suc (length w.net)) step.sends) ∙ ap (λ (es : List Effect). told.sent.items ++ es)
+    sent = tells.sends.sent ∙ ap (λ (es : List Effect). told.sent.items ++ es) (sent_alike w.agreed _ _) ∙ ap (λ (es : List Effect). told.sent.items ++ es)
         (ap (λ (k : ℕ). sent_from (suc k) (map (message_in w.agreed) step.sends)) (sym (messages_many w.agreed w.net))
         ∙ ap (λ (ms : List (Message Value)). sent_from (suc (length (messages_of w.agreed w.net))) ms) (come.sends ∙ sym (drop-append_seam (messages_of w.agreed w.net) d.sends)));
   }
@@ -195,12 +195,12 @@ module _ {S : Type 0} {service : Declarations} {w w2 : World S} (h : IsRunning s
         kept = subst (λ (k : ℕ). IsKept service w.seed k (world_of service sent_world)) (sym many) (subst (λ (v : World S). IsKept service w.seed (nodes_of w) (world_of service v)) tells.rest kept);
         members = subst (λ (k : ℕ). AreMembers service w.agreed w.seed k 1 nodes.items) (sym many) all.members;
         within = all.within;
-        told = subst (All (TellsRightly service w.agreed)) (sym tells.sends.net) (All-append (TellsRightly service w.agreed) w.net (map spelling_of step.sends) h.told (all_told w.agreed service step.sends tells.sends.spelled told_right));
-        spelled = subst (All IsSpelled) (sym tells.sends.net) (All-append IsSpelled w.net (map spelling_of step.sends) h.spelled (all_spelled step.sends tells.sends.spelled));
+        told = subst (All (TellsRightly service w.agreed)) (sym tells.sends.net) (All-append (TellsRightly service w.agreed) w.net (map spelling_of step.sends) h.told (all_told w.agreed service _ tells.sends.spelled told_right));
+        spelled = subst (All IsSpelled) (sym tells.sends.net) (All-append IsSpelled w.net (map spelling_of step.sends) h.spelled (all_spelled _ tells.sends.spelled));
         requests = h.requests;
         flushed = omega (arith, ap length tells.sends.handed, length-append w.handed.items (replicate (length step.sends) false), h.flushed);
         handed = subst (λ (hs : List Bool). list_all (λ (b : Bool). b) hs ≡ true) (sym (front_after h.flushed)) h.handed;
-        clients = ap length shown ∙ releases_long (stamp_at (node_at (heres service w.agreed nodes.items) m)) step.effects w.seen.items ∙ h.clients;
+        clients = ap length shown ∙ releases_long (stamp_at (node_at (heres service w.agreed nodes.items) m)) step.effects _ ∙ h.clients;
       })
 
   -- the row of a step that was told

@@ -47,11 +47,11 @@ told_as {E} {end} {other} {service} {declared} {values} {shown} {counts} {others
 shown_at : (service : Declarations) (values : List Value) (replayed : ℕ) (a : _) (proposer : Option _) (acting : Option ActingValue) {s : StateValue}
     → (acting ≡ None → run service (start_of service) (trace_of (take replayed values)) ≡ Some s) → IsActing service values a proposer acting
     → (if is_active (role_of a proposer (is_some acting)) then state_after service (trace_of values ++ (work_of acting).live) else state_after service (trace_of (take replayed values))) ≡ shown_with acting s
-shown_at service values replayed a None None {s} ahead acts = run_to service (trace_of (take replayed values)) (ahead refl)
-shown_at service values replayed a (Some p) None {s} ahead acts = run_to service (trace_of (take replayed values)) (ahead refl)
+shown_at service values replayed a None None {s} ahead acts = run_to service _ (ahead refl)
+shown_at service values replayed a (Some p) None {s} ahead acts = run_to service _ (ahead refl)
 shown_at service values replayed a None (Some e) ahead acts = absurd acts
 shown_at service values replayed a (Some p) (Some e) ahead acts =
-    run_to service (trace_of values ++ e.recorder.live) (run-then service (start_of service) e.recorder.start (trace_of values) e.recorder.live acts.executes.known ∙ acts.executes.recorder.runs)
+    run_to service _ (run-then service (start_of service) _ (trace_of values) _ acts.executes.known ∙ acts.executes.recorder.runs)
 
 few_live : (service : Declarations) (values : List Value) (a : _) (proposer : Option _) (acting : Option ActingValue) → IsActing service values a proposer acting → length (work_of acting).live ≤ 4096
 few_live service values a p None acts = omega arith
@@ -68,7 +68,7 @@ module _ {service : Declarations} {past : List Value} (x : NodeValue KeeperValue
   shown_is e =
       let up = node.up e in
       ap (λ (vs : List Value). if is_active (role_of x.acceptor x.proposer (is_some x.acting)) then state_after service (trace_of vs ++ (work_of x.acting).live) else state_after service (trace_of (take x.replayed vs))) (sym up.known)
-      ∙ shown_at service (knows past x) x.replayed x.acceptor x.proposer x.acting up.ahead up.acting
+      ∙ shown_at service _ _ x.acceptor _ x.acting up.ahead up.acting
 
   pub end_is : x.up ≡ true → end_of x.id (here_of records_of service past x) ≡ Up (up_end_of x)
   end_is e =
@@ -80,7 +80,7 @@ module _ {service : Declarations} {past : List Value} (x : NodeValue KeeperValue
   pub is_few : x.up ≡ true → (length (work_of x.acting).live ≤ 4096) × (known_count x ≤ 65535)
   is_few e =
       let up = node.up e in
-      (few_live service (knows past x) x.acceptor x.proposer x.acting up.acting, subst (λ (n : ℕ). n ≤ 65535) (sym (count_known x node e)) up.numbers.log.few)
+      (few_live service _ x.acceptor _ x.acting up.acting, subst (λ (n : ℕ). n ≤ 65535) (sym (count_known x node e)) up.numbers.log.few)
 
 -- ---- one line after the other
 
@@ -95,7 +95,7 @@ ends_more service number [] y =
 ends_more service number (x ∷ xs) y =
     let e : suc number + length xs ≡ number + suc (length xs) = omega arith in
     ap (λ (t : List ℕ). node_text service number x ++ t)
-    (ends_more service (suc number) xs y ∙ ap (λ (k : ℕ). ends_text service (suc number) xs ++ node_text service k y) e)
+    (ends_more service _ xs y ∙ ap (λ (k : ℕ). ends_text service (suc number) xs ++ node_text service k y) e)
     ∙ sym (append_assoc (node_text service number x) (ends_text service (suc number) xs) (node_text service (number + suc (length xs)) y))
 
 -- the lines so far, and one more; which append of a node fails isn't told

@@ -122,7 +122,7 @@ module _ (service : Declarations) (past : List Value) {call : CallHere → CallH
 
   well : (armed : Option Fate) → old.keeper.armed ≡ armed → GoesWell records_of follows (λ k. k.faults) service call old.keeper new.keeper (begin before) came → Same × (faults_of new.keeper ≤ faults_of old.keeper)
   well None e h =
-      let unarmed : new.keeper.armed ≡ None = stays old.keeper new.keeper h.written e h.appends in
+      let unarmed : new.keeper.armed ≡ None = stays _ _ h.written e h.appends in
       let a = ap failing unarmed in
       let b = h.counted in (
         sym (at_failure (sym (ap armed_of e))) ∙ h.is ∙ disarmed_then unarmed,
@@ -132,14 +132,14 @@ module _ (service : Declarations) (past : List Value) {call : CallHere → CallH
       let none = none_written h.written e h.appends in
       let many : length (call (begin before)).node.log ≡ length before.log = omega (arith, ap (λ (d : CallHere). length d.node.log) h.is, h.many, ap length none.0) in
       let a = ap faults_of none.1 in (
-        unseen (armed_of old.keeper.armed) (goes (armed_of old.keeper.armed)) refl many
+        unseen _ (goes (armed_of old.keeper.armed)) refl many
             ∙ ap (armed_as (armed_of old.keeper.armed)) h.is
             ∙ ap (λ (k : KeeperValue). armed_as (armed_of k.armed) came) (sym none.1),
         omega arith,
       )
 
   fails : (armed : Option Fate) → old.keeper.armed ≡ armed → FailsAfter records_of follows (λ k. k.faults) service call old.keeper new.keeper (begin before) came → Same × (faults_of new.keeper ≤ faults_of old.keeper)
-  fails None e h = absurd (armed_not h.between.armed (stays old.keeper h.between h.written e h.appends) h.fails.0)
+  fails None e h = absurd (armed_not _ (stays _ h.between h.written e h.appends) h.fails.0)
   fails (Some fate) e h =
       let none = none_written h.written e h.appends in
       let is : new.keeper ≡ failed_to fate h.bytes old.keeper new.keeper.broken =
@@ -147,8 +147,8 @@ module _ (service : Declarations) (past : List Value) {call : CallHere → CallH
       let grown : new.keeper.records ≡ failed_records h.kept old.keeper.records h.bytes =
       h.grown ∙ ap (λ (ws : List (List ℕ)). failed_records h.kept (old.keeper.records ++ ws) h.bytes) none.0 ∙ ap (λ (rs : List (List ℕ)). failed_records h.kept rs h.bytes) (append-nil old.keeper.records) in
       let failure : let f : Option Failure = Some (After (length h.written) h.kept) in f ≡ armed_of old.keeper.armed =
-      ap (λ (ws : List (List ℕ)). let f : Option Failure = Some (After (length ws) h.kept) in f) none.0 ∙ kept_as fate h.kept old.keeper h.bytes is grown ∙ sym (ap armed_of e) in
-      let then = unarmed_then fate old.keeper h.bytes is in
+      ap (λ (ws : List (List ℕ)). let f : Option Failure = Some (After (length ws) h.kept) in f) none.0 ∙ kept_as fate h.kept _ h.bytes is grown ∙ sym (ap armed_of e) in
+      let then = unarmed_then fate _ h.bytes is in
       let a = then.1 in
       let b = ap failing e in (
         sym (at_failure failure) ∙ h.is ∙ disarmed_then then.0,
@@ -156,8 +156,8 @@ module _ (service : Declarations) (past : List Value) {call : CallHere → CallH
       )
 
   comes : Does records_of follows (λ k. k.faults) service past call old new step → Same × (faults_of new.keeper ≤ faults_of old.keeper)
-  comes (inl h) = well old.keeper.armed refl h
-  comes (inr h) = fails old.keeper.armed refl h
+  comes (inl h) = well _ refl h
+  comes (inr h) = fails _ refl h
 
   pub is_done : old.up ≡ true → Does records_of follows (λ k. k.faults) service past call old new step → IsDone past call (here_at service past old) (here_at service past new) step
   is_done up does =
@@ -196,7 +196,7 @@ module _ (service : Declarations) (past : List Value) {call : CallHere → CallH
       parts = and_parts (list_all (is_stated service) h.written) (list_all (is_stated service) (h.bytes ∷ [])) (sym (list_all-append (is_stated service) h.written (h.bytes ∷ [])) ∙ h.stated)
 
       by : (kept : Bool) → AreStated service (failed_records kept (old.keeper.records ++ h.written) h.bytes)
-      by true = stated_both (old.keeper.records ++ h.written) (h.bytes ∷ []) (stated_both old.keeper.records h.written stated parts.0) parts.1
+      by true = stated_both (old.keeper.records ++ h.written) _ (stated_both old.keeper.records h.written stated parts.0) parts.1
       by false = stated_both old.keeper.records h.written stated parts.0
 
   states : Does records_of follows (λ k. k.faults) service past call old new step → AreStated service old.keeper.records → AreStated service new.keeper.records

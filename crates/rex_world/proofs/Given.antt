@@ -106,10 +106,10 @@ module _ {S : Type 0} {service : Declarations} {w : World S} (h : IsRunning serv
   before = world_of service w
 
   was : node_at before.nodes m ≡ here_at service w.agreed old
-  was = at_old w.nodes.items there new old_is nodes_are service w.agreed
+  was = at_old _ there new old_is nodes_are service w.agreed
 
   many : length nodes.items ≡ nodes_of w
-  many = many_are w.nodes.items there new old_is nodes_are
+  many = many_are _ there new old_is nodes_are
 
   pub given_same : {broken : Bool} → IsSame w (later broken)
   given_same = record { nodes = many; requests = refl; seed = refl }
@@ -117,18 +117,18 @@ module _ {S : Type 0} {service : Declarations} {w : World S} (h : IsRunning serv
   -- only this node is another one
   pub given_put : (broken : Bool) {y : Here} → here_at service w.agreed new ≡ y → (let v : ModelWorld = record before { nodes = put before.nodes m y } in world_of service (later broken) ≡ v)
   given_put broken e =
-      ap (λ (xs : List Here). let v : ModelWorld = record before { nodes = xs } in v) (now_put w.nodes.items there new old_is nodes_are service w.agreed ∙ ap (put before.nodes m) e)
+      ap (λ (xs : List Here). let v : ModelWorld = record before { nodes = xs } in v) (now_put _ there new old_is nodes_are service w.agreed ∙ ap (put before.nodes m) e)
 
   -- it is as it was
   pub given_still : (broken : Bool) → here_at service w.agreed new ≡ here_at service w.agreed old → world_of service (later broken) ≡ before
   given_still broken e =
       given_put broken (e ∙ sym was)
-      ∙ ap (λ (xs : List Here). let v : ModelWorld = record before { nodes = xs } in v) (put_same before.nodes m)
+      ∙ ap (λ (xs : List Here). let v : ModelWorld = record before { nodes = xs } in v) (put_same _ m)
 
   -- where the model's world is kept, and what is agreed on stays, the world runs
   pub given_running : IsKept service w.seed (nodes_of w) (world_of service (later w.broken)) → w.agreed ≡ agreed (world_of service (later w.broken)) → IsRunning service (later w.broken)
   given_running kept agreed_is =
-      let all = all_stay w.nodes.items there new old_is nodes_are service w.agreed w.seed (nodes_of w) stays (record { members = h.members; within = h.within }) in
+      let all = all_stay _ there new old_is nodes_are service w.agreed w.seed _ stays (record { members = h.members; within = h.within }) in
       record {
         service_is = h.service_is;
         checked = h.checked;
@@ -163,7 +163,7 @@ module _ {S : Type 0} {service : Declarations} {w : World S} (h : IsRunning serv
     given_world broken (Err r) a = tt
     given_world broken (Ok t) a =
         let b = handed_was a in
-        let n = none_refused (node_at before.nodes m) (ok_none (refusal_active (node_at before.nodes m)) t b.refused) in
+        let n = none_refused (node_at before.nodes m) (ok_none _ t b.refused) in
         given_put broken (b.takes ∙ ap (λ (u : Turn). (taken u (begin (node_at before.nodes m))).node) b.told)
         ∙ take_is service before m e n.0 n.1
 

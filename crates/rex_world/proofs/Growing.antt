@@ -76,9 +76,9 @@ module _ (service : Declarations) (seed : ℕ) (past : List Value) where
   pub all_front : (lists : List (List ℕ)) (log : Log) → AreRecords sv (log_behind service past log lists) → AreRecords sv log × Begins (known log) (known (log_behind service past log lists))
   all_front [] log h = (h, ([], append-nil (known log)))
   all_front (bytes ∷ lists) log h =
-      let others = all_front lists (with_one log bytes) h in
-      let one = one_front log (record_in (standing_in log) bytes) others.0 in
-      (one.0, begins_on (known log) one.1 others.1)
+      let others = all_front lists _ h in
+      let one = one_front log _ others.0 in
+      (one.0, begins_on _ one.1 others.1)
 
   -- ---- values that are learned
 
@@ -94,7 +94,7 @@ module _ (service : Declarations) (seed : ℕ) (past : List Value) where
         → KeepsUp (rec_of service past (rec.Known i v) ∷ log) (if b then values ++ v ∷ [] else values)
     keeps_known {log} {i} {v} {values} due begins c true e =
         let n : i ≡ length values + 1 = eqb-true i (length values + 1) e in
-        let same : known log ≡ values = same_fronts (known log) values all (begins_on (known log) (v ∷ [], refl) begins) c.begins (omega (arith, n, due)) in
+        let same : known log ≡ values = same_fronts _ values all (begins_on _ (v ∷ [], refl) begins) c.begins (omega (arith, n, due)) in
         record {
           begins = subst (λ (vs : List Value). Begins (vs ++ v ∷ []) all) same begins;
           long = let l = c.long in omega (arith, l, length-append values (v ∷ []));
@@ -118,7 +118,7 @@ module _ (service : Declarations) (seed : ℕ) (past : List Value) where
         → KeepsUp (rec_of service past r ∷ log) (learned_of values r)
     keeps_one bytes (rec.Promised b) e begins c = record { begins = c.begins; long = c.long; known_few = c.known_few }
     keeps_one bytes (rec.Accepted b i v) e begins c = record { begins = c.begins; long = c.long; known_few = c.known_few }
-    keeps_one {log} bytes (rec.Known i v) {values} e begins c = keeps_known (known_due (standing_in log) bytes e) begins c (i == length values + 1) refl
+    keeps_one {log} bytes (rec.Known i v) {values} e begins c = keeps_known (known_due _ bytes e) begins c _ refl
     keeps_one bytes (rec.Checkpoint k snapshot) e begins c = record { begins = c.begins; long = c.long; known_few = c.known_few }
     keeps_one bytes (rec.Dropped k) e begins c = record { begins = c.begins; long = c.long; known_few = c.known_few }
     keeps_one bytes (rec.Transferred k snapshot) e begins c = record {
@@ -166,7 +166,7 @@ module _ (service : Declarations) (past values : List Value) (fits : list_all (s
     up = λ up.
         let u = h.up up in
         let begins : Begins (first x.offset past) values =
-        begins_on (first x.offset past) (x.known, refl) (subst (λ (vs : List Value). Begins vs values) (sym u.known) a.knows_front) in
+        begins_on _ (x.known, refl) (subst (λ (vs : List Value). Begins vs values) (sym u.known) a.knows_front) in
         let low = past_has service x.offset past values fits begins in
         let same_knows : knows values x ≡ knows past x = ap (λ (vs : List Value). vs ++ x.known) (first_grown service past values fits front low) in
         let same_here : here_of records_of service values x ≡ here_of records_of service past x =
@@ -197,7 +197,7 @@ module _ (service : Declarations) (past values : List Value) (fits : list_all (s
 
   others_agree : (x : Member) (xs : List Member) → EachAgrees (x ∷ xs) → EachAgrees xs
   others_agree x xs each zero there = absurd (let l : 0 < 0 = there.0 in omega (arith, l))
-  others_agree x xs each (suc i) there = subst Agrees (later_at (here_at service past x) (heres service past xs) i) (each (suc (suc i)) (omega arith, omega (arith, there.1)))
+  others_agree x xs each (suc i) there = subst Agrees (later_at _ _ i) (each (suc (suc i)) (omega arith, omega (arith, there.1)))
 
   pub heres_grown : (xs : List Member) → EachAgrees xs → heres service values xs ≡ heres service past xs
   heres_grown [] each = refl
@@ -208,7 +208,7 @@ module _ (service : Declarations) (past values : List Value) (fits : list_all (s
   pub members_grown : (seed nodes number : ℕ) (xs : List Member) → EachAgrees xs → AreMembers service past seed nodes number xs → AreMembers service values seed nodes number xs
   members_grown seed nodes number [] each h = tt
   members_grown seed nodes number (x ∷ xs) each h =
-      (member_grown (each 1 (omega arith, omega arith)) h.0, members_grown seed nodes (suc number) xs (others_agree x xs each) h.1)
+      (member_grown (each 1 (omega arith, omega arith)) h.0, members_grown seed nodes _ xs (others_agree x xs each) h.1)
 
 -- ---- the world
 
@@ -228,19 +228,19 @@ module _ {S : Type 0} (service : Declarations) (w x : World S) (h : IsRunning se
     all = agreed (world_of service unsettled)
 
     in_both : {q : ℕ} → IsNode (length nodes) q → IsNode (nodes_of x) q
-    in_both {q} l = subst (λ (n : ℕ). IsNode n q) (many_here service w.agreed x.nodes.items) l
+    in_both {q} l = subst (λ (n : ℕ). IsNode n q) (many_here service w.agreed _) l
 
     here : IsNode (nodes_of x) m
     here = subst (λ (n : ℕ). IsNode n m) (sym many) there
 
     begins : (q : ℕ) → IsNode (nodes_of x) q → Begins (known (node_at nodes q).log) all
-    begins q l = known_begins (nodes_of x) (service_of service x.seed) (world_of service unsettled) works.kept.world q l
+    begins q l = known_begins _ _ _ works.kept.world q l
 
     fits : list_all (spells service) all ≡ true
     fits =
         holds_of_longest (λ (vs : List Value). list_all (spells service) vs ≡ true) nodes refl
         (λ q l. (and_parts (list_all (spells service) (known (node_at nodes q).log)) (runs service (trace_of (known (node_at nodes q).log)))
-        ((next_fits service x.seed (nodes_of x) (world_of service unsettled) works.kept.world).known q (in_both l))).0)
+        ((next_fits service x.seed _ _ works.kept.world).known q (in_both l))).0)
 
     -- the node's records
     abbrev old_records : List (List ℕ)
@@ -253,7 +253,7 @@ module _ {S : Type 0} (service : Declarations) (w x : World S) (h : IsRunning se
     new_log = log_behind service w.agreed old_log grown.0
 
     old_is : (node_at before m).log ≡ old_log
-    old_is = log_is w.nodes.items there service w.agreed
+    old_is = log_is _ there service w.agreed
 
     behind : log_of service w.agreed (records_at x.nodes.items m) ≡ new_log
     behind =
@@ -261,35 +261,35 @@ module _ {S : Type 0} (service : Declarations) (w x : World S) (h : IsRunning se
         ∙ fold-append (λ (log : List (Rec Value StateValue)) (bytes : List ℕ). log_with service w.agreed log (record_in (standing_in log) bytes)) [] old_records grown.0
 
     new_is : (node_at nodes m).log ≡ new_log
-    new_is = log_is x.nodes.items here service w.agreed ∙ behind
+    new_is = log_is _ here service w.agreed ∙ behind
 
     sorted : AreRecords (service_of service x.seed) new_log
     sorted = subst (AreRecords (service_of service x.seed)) new_is (works.kept.world.cluster.safe.sorted m here)
 
     old_read : AreRead service w.agreed old_records
-    old_read = read_is w.nodes.items there service w.agreed w.seed (nodes_of w) h.members
+    old_read = read_is _ there service w.agreed w.seed _ h.members
 
     new_read : AreRead service w.agreed (records_at x.nodes.items m)
-    new_read = read_is x.nodes.items here service w.agreed x.seed (nodes_of x) works.members
+    new_read = read_is _ here service w.agreed x.seed _ works.members
 
     -- another node is as it was
     at_node : (q : ℕ) → node_at nodes q ≡ cond (eqb q m) (node_at nodes m) (node_at before q)
     at_node q =
         ap (λ (xs : List Here). node_at xs q) others
-        ∙ node_put before m (node_at nodes m) q (subst (λ (n : ℕ). IsNode n m) (sym (many_here service w.agreed w.nodes.items)) there)
+        ∙ node_put before m _ q (subst (λ (n : ℕ). IsNode n m) (sym (many_here service w.agreed _)) there)
 
     -- what was agreed on begins what is
     front : Begins w.agreed all
     front =
         subst (λ (vs : List Value). Begins vs all) (sym h.agreed)
-        (holds_of_longest (λ (vs : List Value). Begins vs all) before (all, refl) (λ q l. by q (subst (λ (n : ℕ). IsNode n q) (many_here service w.agreed w.nodes.items ∙ sym many) l) (eqb q m) refl))
+        (holds_of_longest (λ (vs : List Value). Begins vs all) before (all, refl) (λ q l. by q (subst (λ (n : ℕ). IsNode n q) (many_here service w.agreed _ ∙ sym many) l) (eqb q m) refl))
       where
         by : (q : ℕ) → IsNode (nodes_of x) q → (b : Bool) → eqb q m ≡ b → Begins (known (node_at before q).log) all
         by q l true e =
             let same : q ≡ m = eqb-true q m e in
             subst (λ (k : ℕ). Begins (known (node_at before k).log) all) (sym same)
             (subst (λ (log : List (Rec Value StateValue)). Begins (known log) all) (sym old_is)
-            (begins_on (known old_log) (all_front service x.seed w.agreed grown.0 old_log sorted).1
+            (begins_on _ (all_front service x.seed w.agreed grown.0 old_log sorted).1
             (subst (λ (log : List (Rec Value StateValue)). Begins (known log) all) new_is (begins m here))))
         by q l false e =
             subst (λ (y : Here). Begins (known y.log) all) (at_node q ∙ ap (λ (b : Bool). cond b (node_at nodes m) (node_at before q)) e) (begins q l)
@@ -309,7 +309,7 @@ module _ {S : Type 0} (service : Declarations) (w x : World S) (h : IsRunning se
 
     -- and what was learned is all that is
     pub learned_all : learned w.agreed grown.0 ≡ all
-    learned_all = whole_front (learned w.agreed grown.0) all kept_up.begins (holds_of_longest (λ (vs : List Value). length vs ≤ length (learned w.agreed grown.0)) nodes (omega arith) (λ q l. by q (eqb q m) refl))
+    learned_all = whole_front _ all kept_up.begins (holds_of_longest (λ (vs : List Value). length vs ≤ length (learned w.agreed grown.0)) nodes (omega arith) (λ q l. by q (eqb q m) refl))
       where
         by : (q : ℕ) (b : Bool) → eqb q m ≡ b → length (known (node_at nodes q).log) ≤ length (learned w.agreed grown.0)
         by q true e =
@@ -325,7 +325,7 @@ module _ {S : Type 0} (service : Declarations) (w x : World S) (h : IsRunning se
     agree : (q : ℕ) → IsNode (nodes_of x) q → Agrees service w.agreed all fits front (node_at nodes q)
     agree q l = record {
       knows_front = begins q l;
-      takes = λ taken s has. ((transfers_right service x.seed (nodes_of x) (world_of service unsettled) works.kept.world).taken q taken s l has).0;
+      takes = λ taken s has. ((transfers_right service x.seed _ _ works.kept.world).taken q taken s l has).0;
     }
 
     module _ (agreed_is : x.agreed ≡ learned w.agreed (drop (length old_records) (records_at x.nodes.items m))) where
@@ -336,7 +336,7 @@ module _ {S : Type 0} (service : Declarations) (w x : World S) (h : IsRunning se
       pub settled_world : world_of service x ≡ world_of service unsettled
       settled_world =
           same_world refl
-          (ap (λ (vs : List Value). heres service vs x.nodes.items) is_all ∙ heres_grown service w.agreed all fits front x.nodes.items agree)
+          (ap (λ (vs : List Value). heres service vs x.nodes.items) is_all ∙ heres_grown service w.agreed all fits front _ agree)
           (ap (λ (vs : List Value). messages_of vs x.net) is_all ∙ (messages_grown service w.agreed all fits front x.net works.told).1)
           refl refl
 
@@ -349,7 +349,7 @@ module _ {S : Type 0} (service : Declarations) (w x : World S) (h : IsRunning se
         few = works.few;
         kept = subst (IsKept service x.seed (nodes_of x)) (sym settled_world) works.kept;
         agreed = is_all ∙ ap agreed (sym settled_world);
-        members = subst (λ (vs : List Value). AreMembers service vs x.seed (nodes_of x) 1 x.nodes.items) (sym is_all) (members_grown service w.agreed all fits front x.seed (nodes_of x) 1 x.nodes.items agree works.members);
+        members = subst (λ (vs : List Value). AreMembers service vs x.seed (nodes_of x) 1 x.nodes.items) (sym is_all) (members_grown service w.agreed all fits front x.seed _ 1 _ agree works.members);
         within = works.within;
         spelled = works.spelled;
         told = subst (λ (vs : List Value). All (TellsRightly service vs) x.net) (sym is_all) (messages_grown service w.agreed all fits front x.net works.told).0;

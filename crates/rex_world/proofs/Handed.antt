@@ -109,7 +109,7 @@ module _ {S : Type 0} (service : Declarations) {w w1 : World S} {number : ℕ} (
         spelled = h.spelled;
         requests = h.requests;
         flushed = omega (arith, ap length marked.handed, length-set w.handed.items (number - 1) true, h.flushed);
-        handed = subst (λ (hs : List Bool). list_all (λ (b : Bool). b) (take w.flushed hs) ≡ true) (sym marked.handed) (all_still w.handed.items w.flushed (number - 1) h.handed);
+        handed = subst (λ (hs : List Bool). list_all (λ (b : Bool). b) (take w.flushed hs) ≡ true) (sym marked.handed) (all_still _ w.flushed _ h.handed);
         clients = h.clients;
       })
 
@@ -121,7 +121,7 @@ module _ {S : Type 0} (service : Declarations) (w : World S) (h : IsRunning serv
     where
       go : (k : ℕ) → message_at (messages_of w.agreed w.net) k ≡ Some (message_in w.agreed m) → IsIn (message_in w.agreed m) (messages_of w.agreed w.net)
       go zero e = absurd (cc)
-      go (suc k) e = nth_in k (messages_of w.agreed w.net) (message_in w.agreed m) e
+      go (suc k) e = nth_in k _ _ e
 
   pub fits : MessageFits (nodes_of w) (message_in w.agreed m)
   fits = h.kept.numbers.messages (message_in w.agreed m) is_there
@@ -138,7 +138,7 @@ module _ {S : Type 0} (service : Declarations) (w : World S) (h : IsRunning serv
   pub hand_runs : RunsOn service (receive (nodes_of w) (service_of service w.seed) m.to m.from (content_in w.agreed m.content)) (begin (disarmed (node_at (heres service w.agreed w.nodes.items) m.to)))
   hand_runs =
       runs_after h fits.to
-      (λ d good. receive_good (nodes_of w) (service_of service w.seed) (logs (world_of service w)) (roles (world_of service w)) (messages_of w.agreed w.net) m.to fits.to m.from (content_in w.agreed m.content) d good (good.old (message_in w.agreed m) is_there))
+      (λ d good. receive_good _ _ (logs (world_of service w)) (roles (world_of service w)) (messages_of w.agreed w.net) m.to fits.to m.from _ d good (good.old (message_in w.agreed m) is_there))
 
   -- the row of the node's call, without the message's own effect
   abbrev hand_row : World S → Row

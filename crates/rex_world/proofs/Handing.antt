@@ -35,7 +35,7 @@ sent_two ms s t =
     let n : suc (length ms) + length s ≡ suc (length (ms ++ s)) = omega (arith, length-append ms s) in
     ap (λ (xs : List (Message Value)). sent_since ms xs) (append_assoc ms s t)
     ∙ ap (λ (xs : List (Message Value)). sent_from (suc (length ms)) xs) (drop-append_seam ms (s ++ t))
-    ∙ sent_both (suc (length ms)) s t
+    ∙ sent_both _ s t
     ∙ ap (λ (k : ℕ). sent_from (suc (length ms)) s ++ sent_from k t) n
     ∙ ap (λ (xs : List (Message Value)). sent_from (suc (length ms)) xs ++ sent_from (suc (length (ms ++ s))) t) (sym (drop-append_seam ms s))
     ∙ ap (λ (xs : List (Message Value)). sent_since ms (ms ++ s) ++ sent_from (suc (length (ms ++ s))) xs) (sym (drop-append_seam (ms ++ s) t))
@@ -127,7 +127,7 @@ module _ {place : ℕ} {before after : List Bool} (inside : place < length befor
         (set-append_seam (replicate place true) (get_or before place true) (drop (suc place) before ++ f.more) true))
         ∙ append_assoc (replicate place true) (true ∷ (drop (suc place) before ++ f.more)) more
         ∙ ap (λ (xs : List Bool). replicate place true ++ (true ∷ xs)) (append_assoc (drop (suc place) before) f.more more)
-        ∙ next_front (f.more ++ more);
+        ∙ next_front _;
   }
 
 -- ---- one more message
@@ -200,7 +200,7 @@ module _ (service : Declarations) (requests : List Request) (seed n : ℕ) where
   pub handed_first : {w : ModelWorld} {a : Told} {place : ℕ} → place ≤ length w.handed → list_all (λ (b : Bool). b) (take place w.handed) ≡ true → HasHanded w w a a place false
   handed_first {w} {a} {place} l h =
       let none : waiting_from 1 (take place w.handed) ≡ [] = none_wait 1 (take place w.handed) h in
-      let front : take place w.handed ≡ replicate place true = all_are (take place w.handed) h ∙ ap (λ (k : ℕ). replicate k true) (length-take-le place w.handed l) in
+      let front : take place w.handed ≡ replicate place true = all_are _ h ∙ ap (λ (k : ℕ). replicate k true) (length-take-le place w.handed l) in
       record {
         did = subst (λ (ns : List ℕ). DidSteps service requests seed n w w a a (map Deliver ns)) (sym none) (record {
           world = refl;
@@ -251,7 +251,7 @@ module _ (service : Declarations) (requests : List Request) (seed n : ℕ) where
         grows = grows_both h.grows s.grows;
         front = s.front;
         waits-is = over.waits-is ∙ ap (λ (z : Bool). if z then waited else true) same ∙ ap (λ (z : Bool). if at then z else true) h.waits-is
-            ∙ sym (some_more (waiting_from 1 (take place w.handed)) at (1 + length (take place w.handed))) ∙ ap is_some_there (sym next);
+            ∙ sym (some_more _ at (1 + length (take place w.handed))) ∙ ap is_some_there (sym next);
       }
 
   pub flushed_all : {w v : ModelWorld} {a b : Told} {place : ℕ} {waits : Bool} → HasHanded w v a b place waits → (place ≤ length v.handed) × (list_all (λ (b : Bool). b) (take place v.handed) ≡ true)

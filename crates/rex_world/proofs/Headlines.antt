@@ -47,7 +47,7 @@ there (Some x) h = (x, refl)
 
 -- values that fit run from the start
 pub fit_run : (service : Declarations) (values : List Value) → values_fit service values ≡ true → (s : StateValue) × (run service (start_of service) (trace_of values) ≡ Some s)
-fit_run service values h = there (run service (start_of service) (trace_of values)) (and_parts (list_all (spells service) values) (runs service (trace_of values)) h).1
+fit_run service values h = there _ (and_parts (list_all (spells service) values) (runs service (trace_of values)) h).1
 
 joined_trace : (values : List Value) → joined (map delta_of values) ≡ trace_of values
 joined_trace [] = refl
@@ -68,29 +68,29 @@ pub headline : {service : Declarations} {requests : List Request} {seed n : ℕ}
     → All (RequestFits service) requests → Headline service requests seed n lines
 headline {service} {requests} {seed} {n} {lines} few good checked fit = record {
   prefix = λ earlier later rest is a b la lb. is_one_list service requests seed n earlier later few a b la lb;
-  runs = λ front rest is k. fit_run service (take k (agreed (world_after service requests seed n front)))
-      (agreed_fits n (service_of service seed) _ (reached_ok service requests seed n few front) refl k);
+  runs = λ front rest is k. fit_run service _
+      (agreed_fits n _ _ (reached_ok service requests seed n few front) refl k);
   cuts = λ front rest is k cut c. agreed_cuts service requests seed n front few good checked k cut c;
   orders = λ front rest is k cut c.
-      let r = fit_run service (take k (agreed (world_after service requests seed n front))) (agreed_fits n (service_of service seed) _ (reached_ok service requests seed n few front) refl k) in
-      cuts_run_alike service (start_of service) r.0 (trace_at (world_after service requests seed n front) k) cut good (start_keeps service good checked) r.1 c;
+      let r = fit_run service _ (agreed_fits n _ _ (reached_ok service requests seed n few front) refl k) in
+      cuts_run_alike service _ r.0 _ cut good (start_keeps service good checked) r.1 c;
   edges = λ front rest is k cut c.
       let vs = take k (agreed (world_after service requests seed n front)) in
-      let r = fit_run service vs (agreed_fits n (service_of service seed) _ (reached_ok service requests seed n few front) refl k) in
-      let counts = (runs_count_on service (start_of service) r.0 (trace_of vs) r.1).numbered in
-      let right = all_right vs (λ v i. (agreed_least service requests seed n front few good checked v (in_take k (agreed (world_after service requests seed n front)) v i)).right) in
+      let r = fit_run service vs (agreed_fits n _ _ (reached_ok service requests seed n few front) refl k) in
+      let counts = (runs_count_on service _ r.0 _ r.1).numbered in
+      let right = all_right vs (λ v i. (agreed_least service requests seed n front few good checked v (in_take k _ v i)).right) in
       subst (λ es. AllowExtensions (HasEdge (map delta_of vs)) es cut) (joined_trace vs)
-      (deltas_allow_extensions (counts_of (start_of service)) (map delta_of vs) cut (subst (AreNumbered (counts_of (start_of service))) (sym (joined_trace vs)) counts) right (subst (λ es. IsConsistent es cut) (sym (joined_trace vs)) c));
+      (deltas_allow_extensions _ _ cut (subst (AreNumbered (counts_of (start_of service))) (sym (joined_trace vs)) counts) right (subst (λ es. IsConsistent es cut) (sym (joined_trace vs)) c));
   causes = λ front rest is v i. agreed_least service requests seed n front few good checked v i;
   once = λ front rest is. agreed_once service requests seed n front few good checked;
   stands = λ front rest is i j release lead ei ej ballot client sequence value released m later leads after.
       replies_stand_later service good checked requests fit seed n few front i j release lead ei ej ballot client sequence value released m later leads after;
   released = λ front rest is client sequence value h. replies_agreed service good checked requests fit seed n few front client sequence value h;
-  reads = λ front rest is. tells_agreed service seed n (world_after service requests seed n front) (reached_ok service requests seed n few front);
-  reported = λ front rest is. reports service n (world_after service requests seed n front);
+  reads = λ front rest is. tells_agreed service seed n _ (reached_ok service requests seed n few front);
+  reported = λ front rest is. reports service n _;
   forward = λ earlier later rest m client variable is l value number. never_back service requests seed n earlier later m client variable value number l;
   shown = λ front rest is client sequence reply l h.
-      told_shows service (world_after service requests seed n front) client sequence reply (replies_show service good checked requests fit seed n few front client sequence reply h) l;
+      told_shows service _ client sequence reply (replies_show service good checked requests fit seed n few front client sequence reply h) l;
   rounds = λ short. rounds_left service requests seed n few lines short;
 }
 

@@ -40,23 +40,23 @@ module _ (service : Declarations) (past : List Value) where
   pub here_index : (xs : List Member) (i : ℕ) (d : Member) → i < length xs → node_at (heres service past xs) (suc i) ≡ here_at service past (get_or xs i d)
   here_index [] i d l = absurd (omega arith)
   here_index (x ∷ xs) zero d l = refl
-  here_index (x ∷ xs) (suc i) d l = later_at (here_at service past x) (heres service past xs) i ∙ here_index xs i d (omega arith)
+  here_index (x ∷ xs) (suc i) d l = later_at _ _ i ∙ here_index xs i d (omega arith)
 
   put_index : (xs : List Member) (i : ℕ) (y : Member) → i < length xs → heres service past (slice_set xs i y) ≡ put (heres service past xs) (suc i) (here_at service past y)
   put_index [] i y l = absurd (omega arith)
   put_index (x ∷ xs) zero y l = refl
-  put_index (x ∷ xs) (suc i) y l = ap (λ (hs : List Here). here_at service past x ∷ hs) (put_index xs i y (omega arith)) ∙ sym (later_put (heres service past xs) i (here_at service past y))
+  put_index (x ∷ xs) (suc i) y l = ap (λ (hs : List Here). here_at service past x ∷ hs) (put_index xs i y (omega arith)) ∙ sym (later_put _ i _)
 
   new_index : (xs : List Member) (i : ℕ) (y : Member) → i < length xs → node_at (heres service past (slice_set xs i y)) (suc i) ≡ here_at service past y
   new_index [] i y l = absurd (omega arith)
   new_index (x ∷ xs) zero y l = refl
-  new_index (x ∷ xs) (suc i) y l = later_at (here_at service past x) (heres service past (slice_set xs i y)) i ∙ new_index xs i y (omega arith)
+  new_index (x ∷ xs) (suc i) y l = later_at _ _ i ∙ new_index xs i y (omega arith)
 
   -- its log is read from its records
   log_index : (xs : List Member) (i : ℕ) → i < length xs → (node_at (heres service past xs) (suc i)).log ≡ log_of service past (get_or (all_records xs) i [])
   log_index [] i l = absurd (omega arith)
   log_index (x ∷ xs) zero l = refl
-  log_index (x ∷ xs) (suc i) l = ap (λ (y : Here). y.log) (later_at (here_at service past x) (heres service past xs) i) ∙ log_index xs i (omega arith)
+  log_index (x ∷ xs) (suc i) l = ap (λ (y : Here). y.log) (later_at _ _ i) ∙ log_index xs i (omega arith)
 
   module _ (seed nodes : ℕ) where
     read_index : (k : ℕ) (xs : List Member) (i : ℕ) → AreMembers service past seed nodes k xs → i < length xs → AreRead service past (get_or (all_records xs) i [])
@@ -104,43 +104,43 @@ module _ (xs : List Member) {number : ℕ} (there : IsNode (length xs) number) w
   inside = omega (arith, there.0, there.1)
 
   pub records_now : (y : Member) → records_at (slice_set xs (number - 1) y) number ≡ records_of y.keeper
-  records_now y = records_set xs (number - 1) y inside
+  records_now y = records_set xs _ y inside
 
   module _ (d : Member) where
     pub records_was : records_at xs number ≡ records_of (slice_index_or xs (number - 1) d).keeper
-    records_was = records_index xs (number - 1) d inside
+    records_was = records_index xs _ d inside
 
     pub within_is : {most : ℕ} → AreWithin most xs → faults_of (slice_index_or xs (number - 1) d).keeper ≤ most
-    within_is {most} all = within_at xs (number - 1) d all inside
+    within_is {most} all = within_at xs _ d all inside
 
   pub set_within : {most : ℕ} (y : Member) → AreWithin most xs → faults_of y.keeper ≤ most → AreWithin most (slice_set xs (number - 1) y)
-  set_within {most} y all one = within_from xs (number - 1) y all one
+  set_within {most} y all one = within_from xs _ y all one
 
   module _ (service : Declarations) (past : List Value) where
     pub here_is : (d : Member) → node_at (heres service past xs) number ≡ here_at service past (slice_index_or xs (number - 1) d)
-    here_is d = subst (λ (m : ℕ). node_at (heres service past xs) m ≡ here_at service past (slice_index_or xs (number - 1) d)) (sym is_next) (here_index service past xs (number - 1) d inside)
+    here_is d = subst (λ (m : ℕ). node_at (heres service past xs) m ≡ here_at service past (slice_index_or xs (number - 1) d)) (sym is_next) (here_index service past xs _ d inside)
 
     pub member_is : (d : Member) {seed nodes : ℕ} → AreMembers service past seed nodes 1 xs → IsMember service past seed nodes number (slice_index_or xs (number - 1) d)
     member_is d {seed} {nodes} all =
         let e : 1 + (number - 1) ≡ number = omega (arith, there.0) in
-        subst (λ (m : ℕ). IsMember service past seed nodes m (slice_index_or xs (number - 1) d)) e (member_from service past seed nodes 1 xs (number - 1) d all inside)
+        subst (λ (m : ℕ). IsMember service past seed nodes m (slice_index_or xs (number - 1) d)) e (member_from service past seed nodes 1 xs _ d all inside)
 
     pub log_is : (node_at (heres service past xs) number).log ≡ log_of service past (records_at xs number)
-    log_is = subst (λ (m : ℕ). (node_at (heres service past xs) m).log ≡ log_of service past (records_at xs number)) (sym is_next) (log_index service past xs (number - 1) inside)
+    log_is = subst (λ (m : ℕ). (node_at (heres service past xs) m).log ≡ log_of service past (records_at xs number)) (sym is_next) (log_index service past xs _ inside)
 
     pub read_is : (seed nodes : ℕ) → AreMembers service past seed nodes 1 xs → AreRead service past (records_at xs number)
-    read_is seed nodes all = read_index service past seed nodes 1 xs (number - 1) all inside
+    read_is seed nodes all = read_index service past seed nodes 1 xs _ all inside
 
     pub new_is : (y : Member) → node_at (heres service past (slice_set xs (number - 1) y)) number ≡ here_at service past y
-    new_is y = subst (λ (m : ℕ). node_at (heres service past (slice_set xs (number - 1) y)) m ≡ here_at service past y) (sym is_next) (new_index service past xs (number - 1) y inside)
+    new_is y = subst (λ (m : ℕ). node_at (heres service past (slice_set xs (number - 1) y)) m ≡ here_at service past y) (sym is_next) (new_index service past xs _ y inside)
 
     pub put_is : (y : Member) → heres service past (slice_set xs (number - 1) y) ≡ put (heres service past xs) number (here_at service past y)
-    put_is y = subst (λ (m : ℕ). heres service past (slice_set xs (number - 1) y) ≡ put (heres service past xs) m (here_at service past y)) (sym is_next) (put_index service past xs (number - 1) y inside)
+    put_is y = subst (λ (m : ℕ). heres service past (slice_set xs (number - 1) y) ≡ put (heres service past xs) m (here_at service past y)) (sym is_next) (put_index service past xs _ y inside)
 
     pub set_members : {seed nodes : ℕ} {y : Member} → AreMembers service past seed nodes 1 xs → IsMember service past seed nodes number y → AreMembers service past seed nodes 1 (slice_set xs (number - 1) y)
     set_members {seed} {nodes} {y} all one =
         let e : number ≡ 1 + (number - 1) = omega (arith, there.0) in
-        members_from service past seed nodes 1 xs (number - 1) all (subst (λ (m : ℕ). IsMember service past seed nodes m y) e one)
+        members_from service past seed nodes 1 xs _ all (subst (λ (m : ℕ). IsMember service past seed nodes m y) e one)
 
     -- so it is of a node that is at its place
     module _ {x : Member} (x_is : x ≡ slice_index_or xs (number - 1) x) where

@@ -31,7 +31,7 @@ same_kind past (says.Snapshot k bytes) = refl
 pub sent_alike : (past : List Value) (number : ℕ) (ms : List Said) → sent_from number (map (message_in []) ms) ≡ sent_from number (map (message_in past) ms)
 sent_alike past number [] = refl
 sent_alike past number (m ∷ ms) =
-    ap (λ (es : List Effect). Sent number (kind_of (content_in [] m.content)) m.from m.to ∷ es) (sent_alike past (suc number) ms)
+    ap (λ (es : List Effect). Sent number (kind_of (content_in [] m.content)) m.from m.to ∷ es) (sent_alike past _ ms)
     ∙ ap (λ (k : MessageKind). Sent number k m.from m.to ∷ sent_from (suc number) (map (message_in past) ms)) (sym (same_kind past m.content))
 
 pub kind_alike : (past : List Value) (c : Says) → kind_of (content_in [] c) ≡ kind_of (content_in past c)
@@ -42,7 +42,7 @@ pub sent_both : (number : ℕ) (xs ys : List (Message Value)) → sent_from numb
 sent_both number [] ys = ap (λ (k : ℕ). sent_from k ys) (sym (add-zero number))
 sent_both number (x ∷ xs) ys =
     let e : suc number + length xs ≡ number + suc (length xs) = omega arith in
-    ap (λ (es : List Effect). Sent number (kind_of x.content) x.from x.to ∷ es) (sent_both (suc number) xs ys ∙ ap (λ (k : ℕ). sent_from (suc number) xs ++ sent_from k ys) e)
+    ap (λ (es : List Effect). Sent number (kind_of x.content) x.from x.to ∷ es) (sent_both _ xs ys ∙ ap (λ (k : ℕ). sent_from (suc number) xs ++ sent_from k ys) e)
 
 pub sends_more : {xs ys : List Said} {net net1 net2 : List (List ℕ)} {handed handed1 handed2 : List Bool} {sent sent1 sent2 : List Effect}
     → Sends xs net net1 handed handed1 sent sent1 → Sends ys net1 net2 handed1 handed2 sent1 sent2 → Sends (xs ++ ys) net net2 handed handed2 sent sent2
@@ -53,7 +53,7 @@ sends_more {xs} {ys} {net} {net1} {handed} {sent} a b = record {
       ∙ ap (λ (hs : List Bool). handed ++ hs) (replicate-append-replicate (length xs) (length ys) false ∙ ap (λ (k : ℕ). replicate k false) (sym (length-append xs ys)));
   sent = b.sent ∙ ap (λ (es : List Effect). es ++ sent_from (suc (length net1)) (map (message_in []) ys)) a.sent ∙ append_assoc sent (sent_from (suc (length net)) (map (message_in []) xs)) (sent_from (suc (length net1)) (map (message_in []) ys))
       ∙ ap (λ (es : List Effect). sent ++ es)
-      (ap (λ (k : ℕ). sent_from (suc (length net)) (map (message_in []) xs) ++ sent_from k (map (message_in []) ys)) next ∙ sym (sent_both (suc (length net)) (map (message_in []) xs) (map (message_in []) ys)) ∙ ap (λ (ms : List (Message Value)). sent_from (suc (length net)) ms) (sym (map-append (message_in []) xs ys)));
+      (ap (λ (k : ℕ). sent_from (suc (length net)) (map (message_in []) xs) ++ sent_from k (map (message_in []) ys)) next ∙ sym (sent_both _ _ _) ∙ ap (λ (ms : List (Message Value)). sent_from (suc (length net)) ms) (sym (map-append (message_in []) xs ys)));
 }
   where
     next : suc (length net1) ≡ suc (length net) + length (map (message_in []) xs)

@@ -86,7 +86,7 @@ unarmed_call service past seed nodes id y Elect = refl
 unarmed_call service past seed nodes id y (Receive message) = refl
 unarmed_call service past seed nodes id y (Submit request) = refl
 unarmed_call service past seed nodes id y (Lane lane clock) = refl
-unarmed_call service past seed nodes id y (Cut limits) = ap (cut service seed nodes id) (counts_same service y (option_copied limits))
+unarmed_call service past seed nodes id y (Cut limits) = ap (cut service seed nodes id) (counts_same service y _)
 unarmed_call service past seed nodes id y Replay = refl
 unarmed_call service past seed nodes id y (Ask other) = refl
 unarmed_call service past seed nodes id y (Checkpoint version) = refl
@@ -125,7 +125,7 @@ module _ {S : Type 0} (service : Declarations) (w : World S) (h : IsRunning serv
     can_serve (Receive message) may = may_receive may.0.1 may.1
     can_serve (Submit request) may = may
     can_serve (Lane lane clock) may = record { there = may.0; count = room service w h m there lane }
-    can_serve (Cut limits) may = record { many = may; spelling = can_be_cut service w h m there (option_copied limits) may }
+    can_serve (Cut limits) may = record { many = may; spelling = can_be_cut service w h m there _ may }
     can_serve Replay may = tt
     can_serve (Ask other) may = tt
     can_serve (Checkpoint version) may = may
@@ -142,7 +142,7 @@ module _ {S : Type 0} (service : Declarations) (w : World S) (h : IsRunning serv
     receive_kept : {message : Said} {number : ℕ} → IsSent w.net number message → message.to ≡ m → Kept (at_node model m (receive (nodes_of w) sv m message.from (content_in w.agreed message.content))).world
     receive_kept {message} {number} sent to =
         subst (λ (k : ℕ). Kept (at_node model k (receive (nodes_of w) sv k message.from (content_in w.agreed message.content))).world) to
-        (unmarked service w.seed (nodes_of w) model number message.to (receive (nodes_of w) sv message.to message.from (content_in w.agreed message.content) (begin (node_at model.nodes message.to))) (node_at model.nodes message.to).up
+        (unmarked service w.seed _ model number _ _ _
         (subst (λ (o : Option (Message Value)). Kept (deliver_found service w.seed (nodes_of w) model number o).world) (sent_at w.agreed number sent)
         (kept_next h (line.Deliver number) (sent_within number sent).0)))
 
@@ -211,19 +211,19 @@ module _ {S : Type 0} (service : Declarations) (w : World S) (h : IsRunning serv
     module _ (old new : Member) (old_is : old ≡ slice_index_or w.nodes.items (m - 1) old) (nodes : Vec Member) (nodes_are : nodes.items ≡ slice_set w.nodes.items (m - 1) new) (d : CallHere) (step : Step) (come : HasCome w.agreed d (here_at service w.agreed new) step)
         (stays : StaysMember service w.agreed w.seed (nodes_of w) m old new) (told_right : AreTold service w.agreed step.sends) (kept : Kept (after model m d).world) (released : AreReleased d.node d.effects) where
       many : length nodes.items ≡ nodes_of w
-      many = many_are w.nodes.items there new old_is nodes_are
+      many = many_are _ there new old_is nodes_are
 
       came_at : HasCome w.agreed d (node_at (heres service w.agreed nodes.items) m) step
-      came_at = subst (λ (y : Here). HasCome w.agreed d y step) (sym (at_new w.nodes.items there new old_is nodes_are service w.agreed)) come
+      came_at = subst (λ (y : Here). HasCome w.agreed d y step) (sym (at_new _ there new old_is nodes_are service w.agreed)) come
 
       all_kept : AreKept service w.agreed w.seed (nodes_of w) w.done nodes.items
-      all_kept = all_stay w.nodes.items there new old_is nodes_are service w.agreed w.seed (nodes_of w) stays (record { members = h.members; within = h.within })
+      all_kept = all_stay _ there new old_is nodes_are service w.agreed w.seed _ stays (record { members = h.members; within = h.within })
 
       -- the messages of the step have their numbers in their ranges
       sends_fit : All IsMessage step.sends
       sends_fit =
-          all_fit h.few kept.numbers (kept_right service w.seed (nodes_of w) (after model m d).world h.service_is h.checked kept).short w.agreed step.sends told_right
-          (λ y i. is_behind model.messages d.sends y (subst (IsIn y) come.sends i))
+          all_fit h.few kept.numbers (kept_right service w.seed _ _ h.service_is h.checked kept).short w.agreed _ told_right
+          (λ y i. is_behind _ d.sends y (subst (IsIn y) come.sends i))
 
       -- so it can be told
       pub can_be_told : CanBeTold service (record w { nodes = nodes }) m step
@@ -239,8 +239,8 @@ module _ {S : Type 0} (service : Declarations) (w : World S) (h : IsRunning serv
       pub came : {count : ℕ} → count ≡ length (records_at w.nodes.items m) → {w2 : World S} {told told2 : Told} → IsSettled service m count (record w { nodes = nodes }) w2 told told2 step → ComesTo service w w2 told told2 (after model m d)
       came {count} count_is {w2} {told} {told2} t =
           settled h there count_is t
-          (comes_after h (tells_step h there count_is t) m came_at t.seen (others_are w.nodes.items there new old_is nodes_are service w.agreed) many all_kept told_right kept)
-          (others_are w.nodes.items there new old_is nodes_are service w.agreed) many (records_grown w.nodes.items there new old_is nodes_are stays.grown)
+          (comes_after h (tells_step h there count_is t) m came_at t.seen (others_are _ there new old_is nodes_are service w.agreed) many all_kept told_right kept)
+          (others_are _ there new old_is nodes_are service w.agreed) many (records_grown _ there new old_is nodes_are stays.grown)
 
     -- ---- the node of the number
 
@@ -254,22 +254,22 @@ module _ {S : Type 0} (service : Declarations) (w : World S) (h : IsRunning serv
       where
         by : (t : Bool) → x.up ≡ t → AreReleased (if t then call (begin x) else say (effect.IsDown m) (begin x)).node (if t then call (begin x) else say (effect.IsDown m) (begin x)).effects
         by true e = releases x e
-        by false e = said_releases x (effect.IsDown m) (λ c s v. elim [ inl y ↦ absurd (cc) | inr y ↦ y ])
+        by false e = said_releases x _ (λ c s v. elim [ inl y ↦ absurd (cc) | inr y ↦ y ])
 
     -- so does one that is started
     started_released : AreReleased (started sv m x).node (started sv m x).effects
     started_released = by x.up refl
       where
         by : (t : Bool) → x.up ≡ t → AreReleased (if t then say (effect.IsUp m) (begin x) else start sv m (begin x)).node (if t then say (effect.IsUp m) (begin x) else start sv m (begin x)).effects
-        by true e = said_releases x (effect.IsUp m) (λ c s v. elim [ inl y ↦ absurd (cc) | inr y ↦ y ])
-        by false e = start_releases {service = service} h.service_is h.checked w.seed (nodes_of w) m x (start sv m (begin x)).node
+        by true e = said_releases x _ (λ c s v. elim [ inl y ↦ absurd (cc) | inr y ↦ y ])
+        by false e = start_releases {service = service} h.service_is h.checked w.seed (nodes_of w) m x _
 
     module _ {old : Member} (old_is : old ≡ slice_index_or w.nodes.items (m - 1) old) where
       pub here_old : x ≡ here_at service w.agreed old
-      here_old = here_is w.nodes.items there service w.agreed old ∙ ap (here_at service w.agreed) (sym old_is)
+      here_old = here_is _ there service w.agreed old ∙ ap (here_at service w.agreed) (sym old_is)
 
       pub member_old : IsMember service w.agreed w.seed (nodes_of w) m old
-      member_old = subst (IsMember service w.agreed w.seed (nodes_of w) m) (sym old_is) (member_is w.nodes.items there service w.agreed old h.members)
+      member_old = subst (IsMember service w.agreed w.seed (nodes_of w) m) (sym old_is) (member_is _ there service w.agreed old h.members)
 
       pub own_old : IsMember service w.agreed old.seed old.nodes old.id old
       own_old = by_own member_old
@@ -278,7 +278,7 @@ module _ {S : Type 0} (service : Declarations) (w : World S) (h : IsRunning serv
       room_old = let r = member_old.keeping.room in omega (arith, r)
 
       pub records_old : {count : ℕ} → count ≡ length (records_of old.keeper) → count ≡ length (records_at w.nodes.items m)
-      records_old e = e ∙ ap length (ap (λ (y : Member). records_of y.keeper) old_is ∙ sym (records_was w.nodes.items there old))
+      records_old e = e ∙ ap length (ap (λ (y : Member). records_of y.keeper) old_is ∙ sym (records_was _ there old))
 
       -- ---- a call
 
@@ -309,10 +309,10 @@ module _ {S : Type 0} (service : Declarations) (w : World S) (h : IsRunning serv
               subst (λ (y : Here). HasCome w.agreed (served m (call_at service w m call) y) (here_at service w.agreed new) step) (sym here_old)
               (subst (λ (k : ℕ). HasCome w.agreed (served k (call_at service w m call) (here_at service w.agreed old)) (here_at service w.agreed new) step) member_old.id
               (subst (λ (c : CallHere → CallHere). HasCome w.agreed (served old.id c (here_at service w.agreed old)) (here_at service w.agreed new) step) same_call
-              (has_come service w.agreed old new (call_for service w.agreed old.seed old.nodes old.id (here_of records_of service w.agreed old) call) step goes_so serves)))
+              (has_come service w.agreed old new _ step goes_so serves)))
 
           pub call_stays : StaysNode records_of service w.agreed old new → StaysMember service w.agreed w.seed (nodes_of w) m old new
-          call_stays stays = serves_stays member_old new (call_for service w.agreed old.seed old.nodes old.id (here_of records_of service w.agreed old) call) step goes_so stays serves
+          call_stays stays = serves_stays member_old new _ step goes_so stays serves
 
         pub call_kept : Kept (after model m (served m (call_at service w m call) x)).world
         call_kept = subst (λ (r : Row). Kept r.world) (sym (served_row model m (call_at service w m call))) (lawful call may).kept

@@ -33,7 +33,7 @@ release_long stamp (Some client) seen = length-set seen client (max (get_or seen
 
 pub releases_long : (stamp : ℕ → ℕ) (es : List Effect) (seen : List ℕ) → length (seen_by_releases stamp es seen) ≡ length seen
 releases_long stamp [] seen = refl
-releases_long stamp (e ∷ es) seen = releases_long stamp es (seen_by_release stamp (released_to e) seen) ∙ release_long stamp (released_to e) seen
+releases_long stamp (e ∷ es) seen = releases_long stamp es _ ∙ release_long stamp _ seen
 
 -- ---- effects one after the other
 
@@ -75,15 +75,15 @@ module _ {service : Declarations} (good : IsService service) (checked : IsChecke
   Releases call = (x : Here) → x.up ≡ true → AreReleased (call (begin x)).node (call (begin x)).effects
 
   pub elect_releases : Releases (elect n (service_of service seed) me)
-  elect_releases x up = by_active (elect_says n sv me (StandsIn service good checked) (replies_stand service good checked) (begin x) quiet_none) (elect_up n sv me (begin x) up).at
+  elect_releases x up = by_active (elect_says n sv me _ (replies_stand service good checked) (begin x) quiet_none) (elect_up n sv me (begin x) up).at
 
   pub receive_releases : (from : ℕ) (content : Content Value) → Releases (receive n (service_of service seed) me from content)
-  receive_releases from content x up = by_active (receive_says n sv me (StandsIn service good checked) (replies_stand service good checked) from content (begin x) quiet_none) (receive_up n sv me from content (begin x) up).at
+  receive_releases from content x up = by_active (receive_says n sv me _ (replies_stand service good checked) from content (begin x) quiet_none) (receive_up n sv me from content (begin x) up).at
 
   pub submit_releases : (requests : List Request) → All (RequestFits service) requests → (number : ℕ) → Releases (λ d. active_only (is_active d.node.role) d (submit_request service (slice_get requests number) d))
   submit_releases requests fit number x up =
       by_active (submit_says service good checked seed n me requests fit number (begin x) quiet_none)
-      (active_up service seed n me (is_active x.role) (begin x) (submit_request service (slice_get requests number) (begin x)) up (submit_up service seed n me (slice_get requests number) (begin x) up)).at
+      (active_up service seed n me _ (begin x) _ up (submit_up service seed n me _ (begin x) up)).at
 
   pub lane_releases : (done lane : ℕ) → Releases (λ d. active_only (is_active d.node.role) d (lane_turn service done lane d))
   lane_releases done lane x up = by_active (turn_says service good checked seed n me done lane (begin x) quiet_none) (by (is_active x.role))
@@ -96,7 +96,7 @@ module _ {service : Declarations} (good : IsService service) (checked : IsChecke
   cut_releases counts x up = by_active (cut_tells service good checked seed n me counts (begin x) quiet_none) (cut_up service seed n me counts (begin x) up).at
 
   pub replay_releases : Releases (replay me)
-  replay_releases x up = by_active (replay_says n sv me (StandsIn service good checked) (replies_stand service good checked) (begin x) quiet_none) (if_up (is_active x.role || x.replayed == length (known x.log)) _ _ (λ active. up) (λ active. up))
+  replay_releases x up = by_active (replay_says n sv me _ (replies_stand service good checked) (begin x) quiet_none) (if_up _ _ _ (λ active. up) (λ active. up))
 
   pub checkpoint_releases : (version : Version) → Releases (checkpoint version (service_of service seed) me)
   checkpoint_releases version x up =
@@ -105,14 +105,14 @@ module _ {service : Declarations} (good : IsService service) (checked : IsChecke
 
   pub drop_releases : Releases (drop_known me)
   drop_releases x up =
-      by_active (drop_says n sv me (StandsIn service good checked) (replies_stand service good checked) (begin x) quiet_none)
-      (if_up (base x.log == offset x.log) _ _ (λ active. up) (append_up x.armed me _ (begin x) (effect.Dropped me (base x.log)) up))
+      by_active (drop_says n sv me _ (replies_stand service good checked) (begin x) quiet_none)
+      (if_up _ _ _ (λ active. up) (append_up x.armed me _ (begin x) _ up))
 
   pub ask_releases : (other : ℕ) → Releases (ask me other)
   ask_releases other x up = by_active (quietly service good checked seed n me (ask me other (begin x)) quiet_none) (λ active. up)
 
   pub stop_releases : Releases (stop me)
-  stop_releases x up = by_active (stop_says n sv me (StandsIn service good checked) (replies_stand service good checked) (begin x) quiet_none) (λ active. absurd (false≢true active))
+  stop_releases x up = by_active (stop_says n sv me _ (replies_stand service good checked) (begin x) quiet_none) (λ active. absurd (false≢true active))
 
   -- a node that is started releases none
   pub start_releases : (x y : Here) → AreReleased y (start (service_of service seed) me (begin x)).effects

@@ -59,17 +59,17 @@ module _ {service : Declarations} {past : List Value} {old : Member} (member : I
     comes_migrated first first_is effects sends =
         let sv = service_of service old.seed in
         let done : IsDone past (migrate sv old.id) h (here_at service past new) migrated = is_done service past (λ f. migrate_either f sv old.id) old new migrated up does in
-        let none : (migrate sv old.id (begin h)).sends ≡ [] = migrated_sends (has_old_base h.log) old.id (begin h) (base h.log) (Checkpoint Two (base h.log) (sv.state (take (base h.log) (known h.log)))) refl in
+        let none : (migrate sv old.id (begin h)).sends ≡ [] = migrated_sends _ old.id (begin h) _ _ refl in
         record {
           node = done.node;
-          sends = sends ∙ no_messages past migrated.sends (done.sends ∙ none);
+          sends = sends ∙ no_messages past _ (done.sends ∙ none);
           effects =
               effects ∙ ap (λ (es : List Effect). es ++ migrated.effects) first_is
               ∙ ap (λ (es : List Effect). told_up ∷ es) done.effects;
         }
 
     pub migrate_stays : StaysNode records_of service past old new → EndsDown old.id old.keeper.faults new.keeper.faults new.up migrated → StaysMember service past old.seed old.nodes old.id old new
-    migrate_stays stays ends = does_stays member new (migrate (service_of service old.seed) old.id) migrated (λ f. migrate_either f (service_of service old.seed) old.id) stays does ends up
+    migrate_stays stays ends = does_stays member new _ migrated (λ f. migrate_either f (service_of service old.seed) old.id) stays does ends up
 
     -- what both steps did
     pub joined_back : (first : Step) (result : Result Step Refusal) → first.effects ≡ told_up ∷ [] → IfOk result (λ (step : Step). step.effects ≡ first.effects ++ migrated.effects) → IfOk result (λ (step : Step). step.sends ≡ migrated.sends)

@@ -46,13 +46,13 @@ module _ {S : Type 0} {service : Declarations} {w : World S} (h : IsRunning serv
 
   -- each step is kept
   pub kept_next : (line : ScheduleLine) → LineFits (nodes_of w) (length w.requests) service.lanes line → IsKept service w.seed (nodes_of w) (step_in service w line).world
-  kept_next line fits = step_kept service h.service_is h.checked w.requests h.requests w.seed (nodes_of w) h.few model line fits h.kept
+  kept_next line fits = step_kept service h.service_is h.checked _ h.requests w.seed _ h.few model line fits h.kept
 
   -- what a node knows after a call that keeps the model runs from the start
   calls_run : {m : ℕ} → IsNode (nodes_of w) m → {call : CallHere → CallHere}
       → ((d : CallHere) → KeepsAll (nodes_of w) sv (logs model) (roles model) model.messages m d → KeepsAll (nodes_of w) sv (logs model) (roles model) model.messages m (call d))
       → RunsOn service call (begin (node_at model.nodes m))
-  calls_run {m} there {call} keeps = subst (λ (x : Here). values_fit service (known x.log) ≡ true) new ((next_fits service w.seed (nodes_of w) next ok).known m there)
+  calls_run {m} there {call} keeps = subst (λ (x : Here). values_fit service (known x.log) ≡ true) new ((next_fits service w.seed _ next ok).known m there)
     where
       d : CallHere
       d = call (begin (node_at model.nodes m))
@@ -61,13 +61,13 @@ module _ {S : Type 0} {service : Declarations} {w : World S} (h : IsRunning serv
       next = (after model m d).world
 
       ok : IsWorld (nodes_of w) sv next
-      ok = (called (nodes_of w) sv model h.kept.world m there call keeps).0
+      ok = (called _ sv model h.kept.world m there call keeps).0
 
       inside : IsNode (length model.nodes) m
-      inside = subst (λ (k : ℕ). IsNode k m) (sym (many_here service w.agreed w.nodes.items)) there
+      inside = subst (λ (k : ℕ). IsNode k m) (sym (many_here service w.agreed _)) there
 
       new : node_at (put model.nodes m d.node) m ≡ d.node
-      new = node_put model.nodes m d.node m inside ∙ ap (λ (t : Bool). cond t d.node (node_at model.nodes m)) (eq-eqb m m refl)
+      new = node_put _ m d.node m inside ∙ ap (λ (t : Bool). cond t d.node (node_at model.nodes m)) (eq-eqb m m refl)
 
   -- so it does where the node's keeper isn't armed
   pub runs_after : {m : ℕ} → IsNode (nodes_of w) m → {call : CallHere → CallHere}
@@ -88,7 +88,7 @@ module _ {S : Type 0} {service : Declarations} {w : World S} (h : IsRunning serv
 
   -- what a node knows begins what is agreed on
   pub front_known : {m : ℕ} → IsNode (nodes_of w) m → Begins (known (node_at model.nodes m).log) w.agreed
-  front_known {m} there = subst (Begins (known (node_at model.nodes m).log)) (sym h.agreed) (known_begins (nodes_of w) sv model h.kept.world m there)
+  front_known {m} there = subst (Begins (known (node_at model.nodes m).log)) (sym h.agreed) (known_begins _ sv model h.kept.world m there)
 
   -- so it is of what it doesn't hold
   forgotten : (m : ℕ) → IsNode (nodes_of w) m → HasForgotten w.agreed (node_at model.nodes m).log
@@ -103,7 +103,7 @@ module _ {S : Type 0} {service : Declarations} {w : World S} (h : IsRunning serv
 
   module _ {m : ℕ} (there : IsNode (nodes_of w) m) where
     pub elect_runs : RunsOn service (calls.elect (nodes_of w) sv m) (begin (disarmed (node_at model.nodes m)))
-    elect_runs = runs_after there (elect_good (nodes_of w) sv (logs model) (roles model) model.messages m there h.few)
+    elect_runs = runs_after there (elect_good _ sv (logs model) (roles model) model.messages m there h.few)
 
     pub starts_from : Starts service w.agreed (node_at model.nodes m)
-    starts_from = record { fit = fit service w h m there; base = λ s e. base_is_right service w.seed (nodes_of w) model h.kept.world m s there e; forgotten = forgotten m there }
+    starts_from = record { fit = fit service w h m there; base = λ s e. base_is_right service w.seed _ model h.kept.world m s there e; forgotten = forgotten m there }

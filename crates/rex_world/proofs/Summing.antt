@@ -23,7 +23,7 @@ use Rattle.rex_world.proofs.Agreeing.{holds_of_longest}
 -- the agreed values of a running world fit
 agreed_fit : {S : Type 0} → KeptValuesFit → {service : Declarations} {w : World S} → IsRunning service w → values_fit service (agreed (world_of service w)) ≡ true
 agreed_fit law {service} {w} h =
-    holds_of_longest (λ values. values_fit service values ≡ true) (world_of service w).nodes refl
+    holds_of_longest (λ values. values_fit service values ≡ true) _ refl
     (λ m there. (law service w.seed (nodes_of w) (world_of service w) h.service_is h.checked h.kept).next.known m (subst (λ (n : ℕ). IsNode n m) h.kept.world.many there))
 
 some_is : {A : Type 0} {o : Option A} {x : A} → o ≡ Some x → IsSome o
@@ -32,7 +32,7 @@ some_is h = rw h refl
 -- values that are the agreed ones run from the start
 pub agreed_runs : {S : Type 0} → KeptValuesFit → {service : Declarations} {w : World S} {values : List Value} {start : StateValue} → IsRunning service w → values ≡ agreed (world_of service w) → start ≡ start_of service → IsSome (run service start (trace_of values))
 agreed_runs law {service} {w} {values} {start} h is at =
-    let r = fit_run service (agreed (world_of service w)) (agreed_fit law h) in
+    let r = fit_run service _ (agreed_fit law h) in
     some_is
     (ap (λ (s : StateValue). run service s (trace_of values)) at ∙ ap (λ (vs : List Value). run service (start_of service) (trace_of vs)) is ∙ r.1)
 
@@ -49,7 +49,7 @@ pub summary_is : {S : Type 0} → (service : Declarations) (s : Scenario) (first
     → ◌≡◌ {A = Summary} (record { lines = lines; messages = messages; known = known_ones; released = released; variables = variables }) (summary_of service s)
 summary_is service s first last {values} {state} {lines} {messages} {known_ones} {released} {variables} first_is last_is releases_are values_are start_is ran lines_is messages_is known_is released_is variables_are =
     same lines_is
-    (messages_is ∙ sym (as_many last.agreed last.net) ∙ ap (λ (w : ModelWorld). length w.messages) ended)
+    (messages_is ∙ sym (as_many _ last.net) ∙ ap (λ (w : ModelWorld). length w.messages) ended)
     (known_is ∙ ap length agreed_is)
     (released_is ∙ ap length (releases_are ∙ ap (λ (w : ModelWorld). releases_from service s w s.schedule) first_is))
     (variables_are ∙ ap (λ (x : StateValue). x.variables) (sym after) ∙ ap (λ (vs : List Value). (state_after service (trace_of vs)).variables) agreed_is)

@@ -67,35 +67,35 @@ module _ {V S : Type 0} (failure : Option Failure) where
 
   module _ (n : ℕ) (sv : Service V S) (me : ℕ) where
     propose_either : (told : Effect) {d : Call V S} (l : Lead V) (i : ℕ) (v : V) {k : Call V S → Call V S} {armed : Call V S} → d.node.armed ≡ None → Goes k → Either d (propose n me told d l i v k) armed
-    propose_either told {d} l i v {armed} e g = added me (Accepted l.ballot i v) _ e (grows (g _ refl))
+    propose_either told {d} l i v {armed} e g = added me _ _ e (grows (g _ refl))
 
     decide_either : {d : Call V S} (l : Lead V) (i : ℕ) (v : V) {k : Call V S → Call V S} {armed : Call V S} → d.node.armed ≡ None → Goes k → Either d (decide n sv me d l i v k) armed
-    decide_either {d} l i v {armed} e g = added me (Known i v) _ e (grows (g _ refl))
+    decide_either {d} l i v {armed} e g = added me _ _ e (grows (g _ refl))
 
     choose_either : {d : Call V S} (l : Lead V) (i : ℕ) (o : Option (Proposal V)) {k : Call V S → Call V S} → d.node.armed ≡ None → Goes k → Either d (choose n sv me d l i o k) (choose n sv me (armed_as failure d) l i o k)
     choose_either l i None e g = quiet refl refl
-    choose_either {d} l i (Some p) {k} e g = propose_either (effect.Adopts me i (sv.size p.value)) l i p.value e g
+    choose_either {d} l i (Some p) {k} e g = propose_either _ l i p.value e g
 
     lead_either : {d : Call V S} (l : Lead V) (o : Option (Proposal V)) {k : Call V S → Call V S} → d.node.armed ≡ None → Goes k → Either d (lead n sv me d l o k) (lead n sv me (armed_as failure d) l o k)
-    lead_either {d} l (Some p) {k} e g = if_either (is_majority n l.accepted_by) (decide_either l p.instance p.value e g) (quiet refl refl)
+    lead_either {d} l (Some p) {k} e g = if_either _ (decide_either l _ p.value e g) (quiet refl refl)
     lead_either {d} l None {k} e g =
         if_either l.active (quiet refl refl)
-        (if_either (is_majority n l.counted) (choose_either l (suc (length (known d.node.log))) (best (suc (length (known d.node.log))) l.reported) e g) (quiet refl refl))
+        (if_either _ (choose_either l _ _ e g) (quiet refl refl))
 
     turn_either : {d : Call V S} (r : Role V) {k : Call V S → Call V S} → d.node.armed ≡ None → Goes k → Either d (turn n sv me d r k) (turn n sv me (armed_as failure d) r k)
     turn_either Follower e g = quiet refl refl
-    turn_either {d} (Leads l) {k} e g = lead_either l l.proposal e g
+    turn_either {d} (Leads l) {k} e g = lead_either l _ e g
 
     pub settle_either : (f : ℕ) → Goes (settle f n sv me)
     settle_either zero d e = quiet refl refl
-    settle_either (suc f) d e = turn_either d.node.role e (settle_either f)
+    settle_either (suc f) d e = turn_either _ e (settle_either f)
 
     stand_either : (b : ℕ) {d : Call V S} {armed : Call V S} → d.node.armed ≡ None → Either d (stand n sv me b d) armed
     stand_either b {d} {armed} e = added me (Promised b) _ e (grows (settle_either (enough (own_reports d.node.log)) _ refl))
 
     pub elect_either : Goes (elect n sv me)
     elect_either d e =
-        if_either (nat_lt 4294967296 (round_of (ballot_above me (promise d.node.log)))) (quiet refl refl) (stand_either (ballot_above me (promise d.node.log)) e)
+        if_either _ (quiet refl refl) (stand_either _ e)
 
     prepare_either : (from b first : ℕ) → Goes (on_prepare me from b first)
     prepare_either from b first d e =
@@ -105,14 +105,14 @@ module _ {V S : Type 0} (failure : Option Failure) where
 
     promise_either : (from b : ℕ) (ps : List (Proposal V)) {d : Call V S} (r : Role V) → d.node.armed ≡ None → Either d (on_promise n sv me from b ps d r) (on_promise n sv me from b ps (armed_as failure d) r)
     promise_either from b ps Follower e = quiet refl refl
-    promise_either from b ps {d} (Leads l) e = if_either (l.ballot == b) (own l.proposal) (quiet refl refl)
+    promise_either from b ps {d} (Leads l) e = if_either _ (own l.proposal) (quiet refl refl)
       where
         own : (o : Option (Proposal V)) → Either d (on_own_promise n sv me from ps d l o) (on_own_promise n sv me from ps (armed_as failure d) l o)
         own (Some p) = quiet refl refl
         own None =
             if_either l.active (quiet refl refl)
             (if_either (is_in from l.counted) (quiet refl refl)
-            (if_either (is_majority n (heard l from ps).counted) (on refl e (settle_either (enough (heard l from ps).reported))) (quiet refl refl)))
+            (if_either (is_majority n (heard l from ps).counted) (on refl e (settle_either _)) (quiet refl refl)))
 
     accept_either : (from b i : ℕ) (v : V) → Goes (on_accept me from b i v)
     accept_either from b i v d e =
@@ -122,26 +122,26 @@ module _ {V S : Type 0} (failure : Option Failure) where
 
     voted_either : (from b i : ℕ) {d : Call V S} (r : Role V) → d.node.armed ≡ None → Either d (on_voted n sv me from b i d r) (on_voted n sv me from b i (armed_as failure d) r)
     voted_either from b i Follower e = quiet refl refl
-    voted_either from b i {d} (Leads l) e = if_either (l.ballot == b) (own l.proposal) (quiet refl refl)
+    voted_either from b i {d} (Leads l) e = if_either _ (own l.proposal) (quiet refl refl)
       where
         own : (o : Option (Proposal V)) → Either d (on_own_vote n sv me from i d l o) (on_own_vote n sv me from i (armed_as failure d) l o)
         own None = quiet refl refl
         own (Some p) =
             if_either (p.instance == i)
             (if_either (is_in from l.accepted_by) (quiet refl refl)
-            (if_either (is_majority n (voted l from p).accepted_by) (on refl e (settle_either (enough (voted l from p).reported))) (quiet refl refl)))
+            (if_either (is_majority n (voted l from p).accepted_by) (on refl e (settle_either _)) (quiet refl refl)))
             (quiet refl refl)
 
     chosen_either : (i : ℕ) (v : V) → Goes (on_chosen me i v)
-    chosen_either i v d e = if_either (i == suc (length (known d.node.log))) (added me (Known i v) _ e (le_refl _)) (quiet refl refl)
+    chosen_either i v d e = if_either _ (added me _ _ e (le_refl _)) (quiet refl refl)
 
     nack_either : (p : ℕ) {d : Call V S} (r : Role V) → Either d (on_nack me p d r) (on_nack me p (armed_as failure d) r)
     nack_either p Follower = quiet refl refl
-    nack_either p (Leads l) = if_either (nat_lt l.ballot p) (quiet refl refl) (quiet refl refl)
+    nack_either p (Leads l) = if_either _ (quiet refl refl) (quiet refl refl)
 
     snapshot_either : (values : List V) → Goes (on_snapshot sv me values)
     snapshot_either values d e =
-        if_either (nat_le (length values) (length (known d.node.log))) (quiet refl refl) (added me (Transferred values (sv.state values)) _ e (le_refl _))
+        if_either _ (quiet refl refl) (added me _ _ e (le_refl _))
 
     pub receive_either : (from : ℕ) (m : Content V) → Goes (receive n sv me from m)
     receive_either from (Prepare b first) d e = prepare_either from b first d e
@@ -160,13 +160,13 @@ module _ {V S : Type 0} (failure : Option Failure) where
       (if_either (nat_lt 0 (length d.node.work.live)) (quiet refl refl) (added me (Checkpoint version _ _) _ e (le_refl _)))
 
   pub drop_either : (me : ℕ) → Goes (drop_known me)
-  drop_either me d e = if_either (base d.node.log == offset d.node.log) (quiet refl refl) (added me (Dropped (base d.node.log)) _ e (le_refl _))
+  drop_either me d e = if_either _ (quiet refl refl) (added me _ _ e (le_refl _))
 
   pub migrate_either : (sv : Service V S) (me : ℕ) → Goes (migrate sv me)
-  migrate_either sv me d e = if_either (has_old_base d.node.log) (added me (Checkpoint Two _ _) _ e (le_refl _)) (quiet refl refl)
+  migrate_either sv me d e = if_either _ (added me _ _ e (le_refl _)) (quiet refl refl)
 
   pub replay_either : (me : ℕ) → Goes (replay me)
-  replay_either me d e = if_either (is_active d.node.role || d.node.replayed == length (known d.node.log)) (quiet refl refl) (quiet refl refl)
+  replay_either me d e = if_either _ (quiet refl refl) (quiet refl refl)
 
   pub ask_either : (me other : ℕ) → Goes (ask me other)
   ask_either me other d e = quiet refl refl
@@ -185,26 +185,26 @@ module _ (failure : Option Failure) (service : Declarations) (seed n me : ℕ) w
   live_either : (counts : List ℕ) (l : Lead Value) (es : List Event) → Goes failure (cut_live service seed n me counts l es)
   live_either counts l [] d e = quiet failure refl refl
   live_either counts l (x ∷ xs) d e =
-      if_either failure (is_faithful service seed (known d.node.log) counts d.node.work.live)
-      (propose_either failure n (service_of service seed) me _ l (suc (length (known d.node.log))) (value_at counts d.node.work.live) e (settle_either failure n (service_of service seed) me (enough l.reported)))
+      if_either failure _
+      (propose_either failure n (service_of service seed) me _ l _ _ e (settle_either failure n _ me _))
       (quiet failure refl refl)
 
   lead_cut_either : (counts : List ℕ) (l : Lead Value) (o : Option (Proposal Value)) → Goes failure (cut_lead service seed n me counts l o)
   lead_cut_either counts l (Some p) d e = quiet failure refl refl
   lead_cut_either counts l None d e =
-      if_either failure (nat_le 65535 (length (known d.node.log))) (quiet failure refl refl)
-      (live_either (greatest_cut counts d.node.work.live) l (below (greatest_cut counts d.node.work.live) d.node.work.live) d e)
+      if_either failure _ (quiet failure refl refl)
+      (live_either _ l _ d e)
 
   role_either : (counts : List ℕ) (r : Role Value) {d : CallHere} → d.node.armed ≡ None → Either failure d (cut_role service seed n me counts r d) (cut_role service seed n me counts r (armed_as failure d))
   role_either counts Follower e = quiet failure refl refl
   role_either counts (Leads l) {d} e = active l.active
     where
       active : (t : Bool) → Either failure d (active_only t d (cut_lead service seed n me counts l l.proposal d)) (active_only t (armed_as failure d) (cut_lead service seed n me counts l l.proposal (armed_as failure d)))
-      active true = lead_cut_either counts l l.proposal d e
+      active true = lead_cut_either counts l _ d e
       active false = quiet failure refl refl
 
   pub cut_either : (counts : List ℕ) → Goes failure (cut service seed n me counts)
-  cut_either counts d e = role_either counts d.node.role e
+  cut_either counts d e = role_either counts _ e
 
 -- ---- what only an active node does
 

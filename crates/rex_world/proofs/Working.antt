@@ -43,7 +43,7 @@ parts_work service values a None (Some x) h = absurd h
 parts_work service values a (Some p) (Some x) h = inl (_, refl, refl)
 
 member_works : {service : Declarations} {past : List Value} {seed nodes number : ℕ} {x : Member} → IsMember service past seed nodes number x → (here_at service past x).up ≡ true → Works (here_at service past x).role (here_at service past x).work
-member_works {service} {past} {x} h up = parts_work service (knows past x) x.acceptor x.proposer x.acting ((h.node.up up).acting)
+member_works {service} {past} {x} h up = parts_work service _ x.acceptor _ x.acting ((h.node.up up).acting)
 
 -- one of some nodes
 spare : (xs : List Member) → 0 < length xs → Member
@@ -62,7 +62,7 @@ module _ {S : Type 0} (service : Declarations) (w : World S) (h : IsRunning serv
       (member_works (member_is w.nodes.items there service w.agreed d h.members) (subst (λ (x : Here). x.up ≡ true) e up))
 
   pub fit : values_fit service (known here.log) ≡ true
-  fit = (next_fits service w.seed (nodes_of w) (world_of service w) h.kept.world).known m there
+  fit = (next_fits service w.seed _ _ h.kept.world).known m there
 
   few : length (known here.log) ≤ 65535
   few = (h.kept.numbers.nodes m there).log.few
@@ -73,14 +73,14 @@ module _ {S : Type 0} (service : Declarations) (w : World S) (h : IsRunning serv
 
   known_room : (lane : ℕ) → here.work.live ≡ [] → HasRoom lane here
   known_room lane none =
-      let r = fit_run service (known here.log) fit in
+      let r = fit_run service _ fit in
       let e : node_trace here ≡ trace_of (known here.log) = ap (λ (es : List Event). trace_of (known here.log) ++ es) none ∙ append-nil (trace_of (known here.log)) in
       let s : live_state service here ≡ r.0 = ap (state_after service) e ∙ ap (λ (o : Option StateValue). unwrap_or o (start_of service)) r.1 in
-      let most = counts_are_few service (known here.log) r.0 lane (and_parts (list_all (spells service) (known here.log)) (runs service (trace_of (known here.log))) fit).0 r.1 in
+      let most = counts_are_few service _ r.0 lane (and_parts (list_all (spells service) (known here.log)) (runs service (trace_of (known here.log))) fit).0 r.1 in
       subst (λ (t : StateValue). (lane_of t lane).done + 1 < 2 ^ 32) (sym s) (omega (arith, most, few))
 
   room_by : (lane : ℕ) → Works here.role here.work → HasRoom lane here
-  room_by lane (inl a) = (kept_room service h.service_is h.checked w.seed (nodes_of w) (world_of service w) h.kept m a.0 a.1 a.2 lane).room
+  room_by lane (inl a) = (kept_room service h.service_is h.checked w.seed _ _ h.kept m a.0 a.1 a.2 lane).room
   room_by lane (inr none) = known_room lane none
 
   pub room : (lane : ℕ) → here.up ≡ true → HasRoom lane here
@@ -89,7 +89,7 @@ module _ {S : Type 0} (service : Declarations) (w : World S) (h : IsRunning serv
   -- a cut can be made
   cut_with : {counts : List ℕ} → AreCounts service here counts → Works here.role here.work → CanBeCut here counts
   cut_with {counts} are (inl a) =
-      let c = kept_cut service h.service_is h.checked w.seed (nodes_of w) (world_of service w) h.kept m a.0 a.1 a.2 counts are in
+      let c = kept_cut service h.service_is h.checked w.seed _ _ h.kept m a.0 a.1 a.2 counts are in
       λ some. record { delta = c.delta some; short = c.short some }
   cut_with {counts} are (inr none) = λ some. absurd (nothing some)
     where

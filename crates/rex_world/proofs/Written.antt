@@ -25,7 +25,7 @@ module _ {a b : List ℕ} (c : List ℕ) {waiting : List ℕ} (text : List ℕ) 
   -- a front of what comes next was written
   pub front_next : GrowsByFront b c (waiting ++ text) → GrowsByFront a c whole
   front_next f =
-      front_of a (h.written ++ take f.0 (waiting ++ text)) (drop f.0 (waiting ++ text) ++ left) (grows_more a b c h.written (take f.0 (waiting ++ text)) h.taken f.1)
+      front_of a _ _ (grows_more a b c h.written _ h.taken f.1)
       (append_assoc h.written (take f.0 (waiting ++ text)) (drop f.0 (waiting ++ text) ++ left)
       ∙ ap (λ (xs : List ℕ). h.written ++ xs)
       (sym (append_assoc (take f.0 (waiting ++ text)) (drop f.0 (waiting ++ text)) left) ∙ ap (λ (xs : List ℕ). xs ++ left) (take-append-drop f.0 (waiting ++ text)) ∙ append_assoc waiting text left ∙ ap (λ (xs : List ℕ). waiting ++ xs) (sym is))
@@ -46,7 +46,7 @@ module _ {a b : List ℕ} (c : List ℕ) {waiting : List ℕ} (text : List ℕ) 
 -- what waits and the rest are written last
 pub written_last : {a b c waiting text rest whole : List ℕ} → IsWritten a b waiting rest whole → rest ≡ text → c ≡ b ++ (waiting ++ text) → c ≡ a ++ whole
 written_last {a} {b} {c} {waiting} {text} h is k =
-    grows_more a b c h.written (waiting ++ text) h.taken k ∙ ap (λ (xs : List ℕ). a ++ xs) (ap (λ (xs : List ℕ). h.written ++ (waiting ++ xs)) (sym is) ∙ h.parts)
+    grows_more a b c h.written _ h.taken k ∙ ap (λ (xs : List ℕ). a ++ xs) (ap (λ (xs : List ℕ). h.written ++ (waiting ++ xs)) (sym is) ∙ h.parts)
 
 pub on_err : {A E P : Type 0} (r : Result A E) → P → OnErr r P
 on_err (Ok x) p = tt

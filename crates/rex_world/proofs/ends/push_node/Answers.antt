@@ -8,15 +8,15 @@ use Rattle.rex_world.proofs.ends.push_node.Goals as goal
 pub up_end_of-requires : goal.up_end_of-requires
 up_end_of-requires g c =
     let up : c.args.node.now.up ≡ true = sym c.is_up.ensures ∙ c.if-not-is_up.false in
-    let few = is_few c.args.node.now c.requires up in
+    let few = is_few _ c.requires up in
     record { live = few.0; known = few.1 }
 
 pub returns : goal.returns
 returns g c =
     let up : c.args.node.now.up ≡ true = sym c.is_up.ensures ∙ c.if-not-is_up.false in
-    told_as c.push_end-2.result c.args.out.now.items c.push_end-2.new.out.items
-    (ap (λ (e : UpEnd). Up e) c.up_end_of.ensures ∙ sym (end_is c.args.node.now c.requires up))
+    told_as _ _ _
+    (ap (λ (e : UpEnd). Up e) c.up_end_of.ensures ∙ sym (end_is _ c.requires up))
     c.declarations-service.ensures.whole
-    (c.variables.ensures ∙ ap (λ (s : StateValue). s.variables) (sym (shown_is c.args.node.now c.requires up)))
-    (c.semaphores.ensures ∙ ap (λ (s : StateValue). s.semaphores) (sym (shown_is c.args.node.now c.requires up)))
+    (c.variables.ensures ∙ ap (λ (s : StateValue). s.variables) (sym (shown_is _ c.requires up)))
+    (c.semaphores.ensures ∙ ap (λ (s : StateValue). s.semaphores) (sym (shown_is _ c.requires up)))
     c.push_end-2.ensures

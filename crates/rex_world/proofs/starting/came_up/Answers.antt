@@ -3,5 +3,5 @@ use Rattle.rex_world.proofs.starting.came_up.Goals as goal
 
 pub returns-clause-effects : goal.returns-clause-effects
 returns-clause-effects g c =
-    told_started c.requires.member c.requires.up c.step_of.result
+    told_started c.requires.member c.requires.up _
     c.id.ensures c.promised.ensures c.known.ensures c.replayed.ensures c.step_of.ensures.effects

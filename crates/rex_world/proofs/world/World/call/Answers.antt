@@ -8,22 +8,22 @@ use Rattle.rex_world.proofs.Stepping.{on_ok}
 use Rattle.rex_world.proofs.world.World.call.Goals as goal
 
 pub serve-requires-clause-node : goal.serve-requires-clause-node
-serve-requires-clause-node g c = (own_old c.args.svc.now c.args.self.now c.requires.running c.args.node c.requires.there c.index_mut.ensures.value).node
+serve-requires-clause-node g c = (own_old _ _ c.requires.running _ c.requires.there c.index_mut.ensures.value).node
 
 pub serve-requires-clause-may : goal.serve-requires-clause-may
-serve-requires-clause-may g c = may_serve c.args.svc.now c.args.self.now c.requires.running c.args.node c.requires.there c.index_mut.ensures.value c.args.call.now c.requires.may
+serve-requires-clause-may g c = may_serve _ _ c.requires.running _ c.requires.there c.index_mut.ensures.value _ c.requires.may
 
 pub serve-requires-clause-count : goal.serve-requires-clause-count
-serve-requires-clause-count g c = room_old c.args.svc.now c.args.self.now c.requires.running c.args.node c.requires.there c.index_mut.ensures.value
+serve-requires-clause-count g c = room_old _ _ c.requires.running _ c.requires.there c.index_mut.ensures.value
 
 pub settle-requires-clause-step : goal.settle-requires-clause-step
 settle-requires-clause-step g c =
-    can_be_told c.args.svc.now c.args.self.now c.requires.running c.args.node c.requires.there c.index_mut.result.now c.serve.new.node c.index_mut.ensures.value _ refl _ c.in_ok-step.step
-    (call_come c.args.svc.now c.args.self.now c.requires.running c.args.node c.requires.there c.index_mut.ensures.value c.args.call.now c.requires.may c.in_ok-step.ensures.serves)
-    (call_stays c.args.svc.now c.args.self.now c.requires.running c.args.node c.requires.there c.index_mut.ensures.value c.args.call.now c.requires.may c.in_ok-step.ensures.serves c.in_ok-step.ensures.kept)
+    can_be_told _ _ c.requires.running _ c.requires.there _ _ c.index_mut.ensures.value _ refl _ _
+    (call_come _ _ c.requires.running _ c.requires.there c.index_mut.ensures.value _ c.requires.may c.in_ok-step.ensures.serves)
+    (call_stays _ _ c.requires.running _ c.requires.there c.index_mut.ensures.value _ c.requires.may c.in_ok-step.ensures.serves c.in_ok-step.ensures.kept)
     c.in_ok-step.ensures.serves.tells
-    (call_kept c.args.svc.now c.args.self.now c.requires.running c.args.node c.requires.there c.index_mut.ensures.value c.args.call.now c.requires.may)
-    (call_released c.args.svc.now c.args.self.now c.requires.running c.args.node c.requires.there c.index_mut.ensures.value c.args.call.now c.requires.may)
+    (call_kept _ _ c.requires.running _ c.requires.there c.index_mut.ensures.value _ c.requires.may)
+    (call_released _ _ c.requires.running _ c.requires.there c.index_mut.ensures.value _ c.requires.may)
 
 pub returns : goal.returns
 returns g c = record {

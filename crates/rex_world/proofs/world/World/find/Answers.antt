@@ -14,4 +14,4 @@ spelled_at net (suc place) {bytes} h e =
     subst IsSpelled (get_or_from_slice_get net place bytes [] e) (All-get_or IsSpelled net place [] (slice_get_within net place bytes e) h)
 
 pub read-requires : goal.read-requires
-read-requires g c = spelled_at c.args.self.now.net c.args.number c.requires (sym c.get.ensures ∙ ap option_copied c.in-Some.is)
+read-requires g c = spelled_at _ _ c.requires (sym c.get.ensures ∙ ap option_copied c.in-Some.is)

@@ -17,7 +17,7 @@ loop-place-preserved g c =
     let i = c.loop-place.invariant in
     let inside : c.loop-place.place < length c.args.self.now.handed.items = omega (arith, c.loop-place-test.true, c.len-count.ensures, c.args.self.now.handed.ok.0) in
     record {
-      handed = handed_next c.args.svc.now c.args.self.now.requests c.args.self.now.seed (nodes_of c.args.self.now)
+      handed = handed_next _ _ _ _
            inside i.running.kept.handed i.handed
           (over_as i.same c.in_ok-waited.ensures.did);
       running = c.in_ok-waited.ensures.running;

@@ -16,11 +16,11 @@ use Rattle.rex_world.proofs.world.World.run.Goals as goal
 
 pub returns-in_err-effects-clause-front : goal.returns-in_err-effects-clause-front
 returns-in_err-effects-clause-front g c =
-    front_next (g.K.Sink.taken c.loop-line.sink)
+    front_next _
     (effects_text c.args.svc.now (c.loop-line.self.done + 1) (row c.args.svc.now c.loop-line.self.requests c.loop-line.self.seed (nodes_of c.loop-line.self) (world_of c.args.svc.now c.loop-line.self) c.line-item.result).effects)
     (report_from c.args.svc.now c.args.scenario.now.requests c.args.scenario.now.seed c.args.scenario.now.nodes (next_of c.args.svc.now c.loop-line.self c.line-item.result) (drop (c.loop-line.line-index + 1) c.args.scenario.now.schedule))
     c.loop-line.invariant.written
-    (report_next c.args.svc.now c.loop-line.invariant.of
+    (report_next _ c.loop-line.invariant.of
     (drop_next c.as_slice-line-items.ensures c.loop-line-test.true c.line-item.is))
     (front_none _)
 
@@ -75,8 +75,8 @@ returns-clause-whole g c =
 
 pub returns-clause-front : goal.returns-clause-front
 returns-clause-front g c =
-    front_next (g.K.Sink.taken c.write_ends.new.sink)
-    (ends_text c.args.svc.now 1 (world_of c.args.svc.now c.loop-line.self).nodes) [] c.loop-line.invariant.written
+    front_next _
+    _ [] c.loop-line.invariant.written
     (ap (report_from c.args.svc.now c.args.scenario.now.requests c.args.scenario.now.seed c.args.scenario.now.nodes (world_of c.args.svc.now c.loop-line.self))
     (drop_end c.as_slice-line-items.ensures c.loop-line-test.false)
     ∙ sym (append-nil (ends_text c.args.svc.now 1 (world_of c.args.svc.now c.loop-line.self).nodes)))
