@@ -23,10 +23,10 @@ none_grown {records} = ([], append-nil records)
 module _ {service : Declarations} {past : List Value} {seed nodes number : ℕ} {old : Member} (member : IsMember service past seed nodes number old) where
   -- the node's numbers are these
   pub named : (P : ℕ → ℕ → ℕ → Type 0) → P old.nodes old.seed old.id → P nodes seed number
-  named P h = subst (λ (m : ℕ). P nodes seed m) member.id (subst (λ (s : ℕ). P nodes s old.id) member.seed_is (subst (λ (n : ℕ). P n old.seed old.id) member.nodes_are h))
+  named P h = subst (λ m. P nodes seed m) member.id (subst (λ s. P nodes s old.id) member.seed_is (subst (λ n. P n old.seed old.id) member.nodes_are h))
 
   pub unnamed : (P : ℕ → ℕ → ℕ → Type 0) → P nodes seed number → P old.nodes old.seed old.id
-  unnamed P h = subst (λ (m : ℕ). P old.nodes old.seed m) (sym member.id) (subst (λ (s : ℕ). P old.nodes s number) (sym member.seed_is) (subst (λ (n : ℕ). P n seed number) (sym member.nodes_are) h))
+  unnamed P h = subst (λ m. P old.nodes old.seed m) (sym member.id) (subst (λ s. P old.nodes s number) (sym member.seed_is) (subst (λ n. P n seed number) (sym member.nodes_are) h))
 
   -- it is a member by its own numbers
   pub by_own : IsMember service past old.seed old.nodes old.id old
@@ -90,7 +90,7 @@ module _ (service : Declarations) (past : List Value) (old new : Member) (call :
       by : (up : Bool) → old.up ≡ up → ServesIf up records_of follows (λ k. k.faults) service past call old new step → HasCome past (served old.id call x) (here_at service past new) step
       by true e s =
           let d = is_done service past goes old new step e s.does in
-          subst (λ (c : CallHere). HasCome past c (here_at service past new) step) (sym (up_is e)) (record { node = d.node; sends = d.sends; effects = d.effects })
+          subst (λ c. HasCome past c (here_at service past new) step) (sym (up_is e)) (record { node = d.node; sends = d.sends; effects = d.effects })
       by false e s =
-          subst (λ (c : CallHere). HasCome past c (here_at service past new) step) (sym (down_is e))
+          subst (λ c. HasCome past c (here_at service past new) step) (sym (down_is e))
           (record { node = ap (here_at service past) s.same; sends = ap (map (message_in past)) s.tells.sends; effects = s.tells.effects })

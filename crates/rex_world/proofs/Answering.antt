@@ -59,13 +59,13 @@ module _ {S : Type 0} {service : Declarations} {w : World S} (h : IsRunning serv
   read_came m {client} variable few x x_is {now} {next} now_is {answer} answer_is next_is {seen} saw {told} e_is effects sent =
       let was : now ≡ get_or w.seen.items client 0 = now_is ∙ number_there _ client now 0 (let many = h.clients in omega (arith, few, many)) in
       let is : answer ≡ read_at service (node_at (heres service w.agreed w.nodes.items) m) variable (get_or w.seen.items client 0) =
-      answer_is ∙ ap (λ (y : Here). read_at service y variable now) (sym x_is) ∙ ap (read_at service (node_at (heres service w.agreed w.nodes.items) m) variable) was in
+      answer_is ∙ ap (λ y. read_at service y variable now) (sym x_is) ∙ ap (read_at service (node_at (heres service w.agreed w.nodes.items) m) variable) was in
       record {
         did = record {
-          world = ap (λ (ss : List ℕ). let v : ModelWorld = record (world_of service w) { seen = ss } in v)
-              (saw ∙ ap (slice_set w.seen.items client) (next_is ∙ ap (λ (k : ℕ). seen_after k answer) was ∙ ap (seen_after (get_or w.seen.items client 0)) is));
-          effects = effects ∙ ap (λ (f : Effect). told.effects.items ++ f ∷ []) (e_is ∙ ap (read_effect m client variable) is);
-          sent = sent ∙ sym (append-nil told.sent.items) ∙ ap (λ (ms : List (Message Value)). told.sent.items ++ sent_from (suc (length (messages_of w.agreed w.net))) ms) (sym (drop-length (messages_of w.agreed w.net)));
+          world = ap (λ ss. let v : ModelWorld = record (world_of service w) { seen = ss } in v)
+              (saw ∙ ap (slice_set w.seen.items client) (next_is ∙ ap (λ k. seen_after k answer) was ∙ ap (seen_after (get_or w.seen.items client 0)) is));
+          effects = effects ∙ ap (λ f. told.effects.items ++ f ∷ []) (e_is ∙ ap (read_effect m client variable) is);
+          sent = sent ∙ sym (append-nil told.sent.items) ∙ ap (λ ms. told.sent.items ++ sent_from (suc (length (messages_of w.agreed w.net))) ms) (sym (drop-length (messages_of w.agreed w.net)));
         };
         running = seen_running (ap length saw ∙ length-set w.seen.items client next);
         same = record { nodes = refl; requests = refl; seed = refl };

@@ -104,12 +104,12 @@ module _ {S : Type 0} (service : Declarations) (w : World S) (h : IsRunning serv
   after = record w { nodes = nodes; done = w.done + 1 }
 
   nodes_so : nodes.items ≡ slice_set w.nodes.items (m - 1) (armed_member (fate_if kept) x)
-  nodes_so = nodes_are ∙ ap (λ (g : Fate). slice_set w.nodes.items (m - 1) (armed_member g x)) f_is
+  nodes_so = nodes_are ∙ ap (λ g. slice_set w.nodes.items (m - 1) (armed_member g x)) f_is
 
   heres_after : heres service w.agreed nodes.items ≡ put (heres service w.agreed w.nodes.items) m (record (node_at (heres service w.agreed w.nodes.items) m) { armed = Some (After 0 kept) })
   heres_after =
       now_put _ there _ x_is nodes_so service w.agreed
-      ∙ ap (put (heres service w.agreed w.nodes.items) m) (here_armed service w.agreed kept x ∙ ap (λ (z : Here). let a : Here = record z { armed = Some (After 0 kept) } in a) (sym (at_old _ there _ x_is nodes_so service w.agreed)))
+      ∙ ap (put (heres service w.agreed w.nodes.items) m) (here_armed service w.agreed kept x ∙ ap (λ z. let a : Here = record z { armed = Some (After 0 kept) } in a) (sym (at_old _ there _ x_is nodes_so service w.agreed)))
 
   pub arming_world : world_of service after ≡ (row service w.requests w.seed (nodes_of w) (world_of service w) (KeepFail m kept)).world
   arming_world = arming_row service w.requests w.seed (nodes_of w) _ m kept heres_after
@@ -128,11 +128,11 @@ module _ {S : Type 0} (service : Declarations) (w : World S) (h : IsRunning serv
         service_is = h.service_is;
         checked = h.checked;
         whole = h.whole;
-        few = subst (λ (n : ℕ). n ≤ most_nodes) (sym many) h.few;
+        few = subst (λ n. n ≤ most_nodes) (sym many) h.few;
         agreed = h.agreed ∙ sym (arming_agreed service w.requests w.seed (nodes_of w) (world_of service w) m kept) ∙ ap agreed (sym arming_world);
-        kept = subst (λ (n : ℕ). IsKept service w.seed n (world_of service after)) (sym many)
+        kept = subst (λ n. IsKept service w.seed n (world_of service after)) (sym many)
             (subst (IsKept service w.seed (nodes_of w)) (sym arming_world) (row_kept service h.service_is h.checked _ h.requests w.seed _ h.few _ (KeepFail m kept) there h.kept));
-        members = subst (λ (n : ℕ). AreMembers service w.agreed w.seed n 1 nodes.items) (sym many) all;
+        members = subst (λ n. AreMembers service w.agreed w.seed n 1 nodes.items) (sym many) all;
         within = new_within _ there _ x_is nodes_so (within_more _ h.within (omega arith)) (omega arith);
         spelled = h.spelled;
         told = h.told;

@@ -33,10 +33,10 @@ pub record AreNew (service : Declarations) (seed nodes number : ℕ) (xs : List 
   pub many : length xs ≡ number
 
 members_more : {service : Declarations} {seed nodes : ℕ} (k : ℕ) (xs : List Member) {x : Member} → AreMembers service [] seed nodes k xs → IsMember service [] seed nodes (k + length xs) x → AreMembers service [] seed nodes k (xs ++ x ∷ [])
-members_more {service} {seed} {nodes} k [] {x} all one = (subst (λ (m : ℕ). IsMember service [] seed nodes m x) (add-zero k) one, tt)
+members_more {service} {seed} {nodes} k [] {x} all one = (subst (λ m. IsMember service [] seed nodes m x) (add-zero k) one, tt)
 members_more {service} {seed} {nodes} k (y ∷ ys) {x} all one =
     let e : k + suc (length ys) ≡ suc k + length ys = omega arith in
-    (all.0, members_more (suc k) ys all.1 (subst (λ (m : ℕ). IsMember service [] seed nodes m x) e one))
+    (all.0, members_more (suc k) ys all.1 (subst (λ m. IsMember service [] seed nodes m x) e one))
 
 within_next : (xs : List Member) (x : Member) → AreWithin 0 xs → faults_of x.keeper ≡ 0 → AreWithin 0 (xs ++ x ∷ [])
 within_next [] x all one = (omega (arith, one), tt)
@@ -47,10 +47,10 @@ pub new_next : {service : Declarations} {seed nodes number : ℕ} {xs : List Mem
 new_next {service} {seed} {nodes} {number} {xs} {x} h e one none =
     let n : number + 1 ≡ 1 + length xs = omega (arith, h.many) in
     record {
-      here = heres_both service [] xs _ ∙ ap (λ (ys : List Here). ys ++ here_at service [] x ∷ []) h.here ∙ ap (λ (y : Here). replicate number new_node ++ y ∷ []) e ∙ sym (replicate_next number new_node);
-      are = members_more 1 xs h.are (subst (λ (m : ℕ). IsMember service [] seed nodes m x) n one);
+      here = heres_both service [] xs _ ∙ ap (λ ys. ys ++ here_at service [] x ∷ []) h.here ∙ ap (λ y. replicate number new_node ++ y ∷ []) e ∙ sym (replicate_next number new_node);
+      are = members_more 1 xs h.are (subst (λ m. IsMember service [] seed nodes m x) n one);
       within = within_next xs x h.within none;
-      many = length-append xs (x ∷ []) ∙ ap (λ (k : ℕ). k + 1) h.many;
+      many = length-append xs (x ∷ []) ∙ ap (λ k. k + 1) h.many;
     }
 
 -- no node yet
@@ -70,11 +70,11 @@ model_of done nodes messages handed seen = record { done = done; nodes = nodes; 
 -- the world of the model before the first line
 pub begins : {S : Type 0} → {service : Declarations} {seed n : ℕ} (w : World S) → AreNew service seed n n w.nodes.items → w.agreed ≡ [] → w.net ≡ [] → w.handed.items ≡ [] → w.seen.items ≡ nothing_seen → w.done ≡ 0 → world_of service w ≡ beginning n
 begins {service} {n} w h none net handed seen done =
-    ap (λ (d : ℕ). model_of d (heres service w.agreed w.nodes.items) (messages_of w.agreed w.net) w.handed.items w.seen.items) done
-    ∙ ap (λ (vs : List Value). model_of 0 (heres service vs w.nodes.items) (messages_of vs w.net) w.handed.items w.seen.items) none
-    ∙ ap (λ (xs : List Here). model_of 0 xs (messages_of [] w.net) w.handed.items w.seen.items) h.here
-    ∙ ap (λ (ms : List (List ℕ)). model_of 0 (replicate n new_node) (messages_of [] ms) w.handed.items w.seen.items) net
-    ∙ ap (λ (hs : List Bool). model_of 0 (replicate n new_node) [] hs w.seen.items) handed
+    ap (λ d. model_of d (heres service w.agreed w.nodes.items) (messages_of w.agreed w.net) w.handed.items w.seen.items) done
+    ∙ ap (λ vs. model_of 0 (heres service vs w.nodes.items) (messages_of vs w.net) w.handed.items w.seen.items) none
+    ∙ ap (λ xs. model_of 0 xs (messages_of [] w.net) w.handed.items w.seen.items) h.here
+    ∙ ap (λ ms. model_of 0 (replicate n new_node) (messages_of [] ms) w.handed.items w.seen.items) net
+    ∙ ap (λ hs. model_of 0 (replicate n new_node) [] hs w.seen.items) handed
     ∙ ap (model_of 0 (replicate n new_node) [] []) seen
 
 -- nothing is agreed on then
@@ -91,14 +91,14 @@ new_running {service} {n} {w} few good checked fit h none net handed seen done f
       whole = whole;
       few = omega (arith, h.many);
       agreed = none ∙ sym (none_agreed n) ∙ ap agreed (sym (begins w h none net handed seen done));
-      kept = subst (λ (k : ℕ). IsKept service w.seed k (world_of service w)) (sym h.many)
-          (subst (λ (x : ModelWorld). IsKept service w.seed n x) (sym (begins w h none net handed seen done)) (beginning_kept service good checked _ fit w.seed n few));
-      members = subst (λ (k : ℕ). AreMembers service w.agreed w.seed k 1 w.nodes.items) (sym h.many) (subst (λ (vs : List Value). AreMembers service vs w.seed n 1 w.nodes.items) (sym none) h.are);
-      within = subst (λ (k : ℕ). AreWithin k w.nodes.items) (sym done) h.within;
-      spelled = subst (λ (ms : List (List ℕ)). All IsSpelled ms) (sym net) (All-nil IsSpelled);
-      told = subst (λ (ms : List (List ℕ)). All (TellsRightly service w.agreed) ms) (sym net) (All-nil (TellsRightly service w.agreed));
+      kept = subst (λ k. IsKept service w.seed k (world_of service w)) (sym h.many)
+          (subst (λ x. IsKept service w.seed n x) (sym (begins w h none net handed seen done)) (beginning_kept service good checked _ fit w.seed n few));
+      members = subst (λ k. AreMembers service w.agreed w.seed k 1 w.nodes.items) (sym h.many) (subst (λ vs. AreMembers service vs w.seed n 1 w.nodes.items) (sym none) h.are);
+      within = subst (λ k. AreWithin k w.nodes.items) (sym done) h.within;
+      spelled = subst (λ ms. All IsSpelled ms) (sym net) (All-nil IsSpelled);
+      told = subst (λ ms. All (TellsRightly service w.agreed) ms) (sym net) (All-nil (TellsRightly service w.agreed));
       requests = fit;
       flushed = omega (arith, flushed);
-      handed = subst (λ (k : ℕ). list_all (λ (b : Bool). b) (take k w.handed.items) ≡ true) (sym flushed) refl;
+      handed = subst (λ k. list_all (λ b. b) (take k w.handed.items) ≡ true) (sym flushed) refl;
       clients = ap length seen;
     }

@@ -45,7 +45,7 @@ module _ {A : Type 0} where
   nil_not e = cc
 
   pub begins_on : (xs : List A) {ys zs : List A} → Begins xs ys → Begins ys zs → Begins xs zs
-  begins_on xs a b = (a.0 ++ b.0, sym (append_assoc xs a.0 b.0) ∙ ap (λ (ws : List A). ws ++ b.0) a.1 ∙ b.1)
+  begins_on xs a b = (a.0 ++ b.0, sym (append_assoc xs a.0 b.0) ∙ ap (λ ws. ws ++ b.0) a.1 ∙ b.1)
 
   -- of two fronts of a list the one that isn't the longer one is the same as the other, or shorter
   pub same_fronts : (xs ys zs : List A) → Begins xs zs → Begins ys zs → length xs ≡ length ys → xs ≡ ys
@@ -122,14 +122,14 @@ module _ (service : Declarations) (past : List Value) where
     in_past : (lists : List (List ℕ)) → TakesFronts (log_of service past lists) → AreInPast past (log_of service past lists)
     in_past lists h taken s there =
         let f = takes_first lists taken s there in
-        let l = past_has service f.0 past values fits (subst (λ (vs : List Value). Begins vs values) f.1 (h taken s there)) in
+        let l = past_has service f.0 past values fits (subst (λ vs. Begins vs values) f.1 (h taken s there)) in
         omega (arith, l, ap length f.1, first_length f.0 past)
 
     pub log_grown : (lists : List (List ℕ)) → TakesFronts (log_of service past lists) → log_of service values lists ≡ log_of service past lists
-    log_grown lists h = subst (λ (vs : List Value). log_of service vs lists ≡ log_of service past lists) front.1 (longer service past front.0 lists (in_past lists h))
+    log_grown lists h = subst (λ vs. log_of service vs lists ≡ log_of service past lists) front.1 (longer service past front.0 lists (in_past lists h))
 
     pub first_grown : {k : ℕ} → k ≤ length past → first k values ≡ first k past
-    first_grown {k} l = subst (λ (vs : List Value). first k vs ≡ first k past) front.1 (first_longer k past front.0 l)
+    first_grown {k} l = subst (λ vs. first k vs ≡ first k past) front.1 (first_longer k past front.0 l)
 
     -- ---- messages
 
@@ -145,7 +145,7 @@ module _ (service : Declarations) (past : List Value) where
       state = h.state;
       spelled = h.spelled;
       version = h.version;
-      leads = subst (λ (vs : List Value). run service (start_of service) (trace_of vs) ≡ Some h.state) (sym (first_grown h.there)) h.leads;
+      leads = subst (λ vs. run service (start_of service) (trace_of vs) ≡ Some h.state) (sym (first_grown h.there)) h.leads;
       there = let l = h.there in omega (arith, l, longer_past);
       short = h.short;
     }
@@ -164,7 +164,7 @@ module _ (service : Declarations) (past : List Value) where
     has_past (says.Snapshot k bytes) h = h.there
 
     read_grown : (r : Result Said ℕ) → TellsIn service past r → TellsIn service values r × (read_message values r ≡ read_message past r)
-    read_grown (Ok m) h = (told_grown m.content h, subst (λ (vs : List Value). message_in vs m ≡ message_in past m) front.1 (message_longer past front.0 m (has_past m.content h)))
+    read_grown (Ok m) h = (told_grown m.content h, subst (λ vs. message_in vs m ≡ message_in past m) front.1 (message_longer past front.0 m (has_past m.content h)))
     read_grown (Err at) h = (tt, refl)
 
     pub messages_grown : (net : List (List ℕ)) → All (TellsRightly service past) net → All (TellsRightly service values) net × (messages_of values net ≡ messages_of past net)
@@ -173,5 +173,5 @@ module _ (service : Declarations) (past : List Value) where
         let one = read_grown _ (All-head (TellsRightly service past) bytes net h).tells in
         let others = messages_grown net (All-tail (TellsRightly service past) bytes net h) in (
           All-cons (TellsRightly service values) bytes net (record { tells = one.0 }) others.0,
-          ap (λ (m : Message Value). m ∷ messages_of values net) one.1 ∙ ap (λ (ms : List (Message Value)). message_of past bytes ∷ ms) others.1,
+          ap (λ m. m ∷ messages_of values net) one.1 ∙ ap (λ ms. message_of past bytes ∷ ms) others.1,
         )

@@ -46,8 +46,8 @@ armed_each service (e ∷ es) h {a} = armed_each service es _
 module _ (service : Declarations) (past : List Value) (x y : NodeValue KeeperValue) (es : List Event) (keeper : y.keeper ≡ x.keeper) where
   leads : LeadsTo (take_each service es) (here_of records_of service past x) (here_of records_of service past y) → LeadsTo (take_each service es) (here_at service past x) (here_at service past y)
   leads h =
-      ap (λ (n : Here). let m : Here = record n { armed = armed_of y.keeper.armed } in m) h
-      ∙ ap (λ (k : KeeperValue). let m : Here = record (take_each service es (begin (here_of records_of service past x))).node { armed = armed_of k.armed } in m) keeper
+      ap (λ n. let m : Here = record n { armed = armed_of y.keeper.armed } in m) h
+      ∙ ap (λ k. let m : Here = record (take_each service es (begin (here_of records_of service past x))).node { armed = armed_of k.armed } in m) keeper
       ∙ sym (armed_each service es _)
 
   pub block_handed : (outcome : Result (Unit {0}) Refusal) → Refuses (refusal_active (here_of records_of service past x)) outcome
@@ -63,8 +63,8 @@ put_again [] m y z = refl
 put_again (x ∷ xs) m y z = go (eqb m 1) refl (put_again xs (m - 1) y z)
   where
     go : (t : Bool) → eqb m 1 ≡ t → put (put xs (m - 1) y) (m - 1) z ≡ put xs (m - 1) z → put (cond t (y ∷ xs) (x ∷ put xs (m - 1) y)) m z ≡ cond t (z ∷ xs) (x ∷ put xs (m - 1) z)
-    go true e h = ap (λ (b : Bool). cond b (z ∷ xs) (y ∷ put xs (m - 1) z)) e
-    go false e h = ap (λ (b : Bool). cond b (z ∷ put xs (m - 1) y) (x ∷ put (put xs (m - 1) y) (m - 1) z)) e ∙ ap (λ (ys : List Here). x ∷ ys) h
+    go true e h = ap (λ b. cond b (z ∷ xs) (y ∷ put xs (m - 1) z)) e
+    go false e h = ap (λ b. cond b (z ∷ put xs (m - 1) y) (x ∷ put (put xs (m - 1) y) (m - 1) z)) e ∙ ap (λ ys. x ∷ ys) h
 
 abbrev with_node : ModelWorld → ℕ → Here → ModelWorld
 with_node w m y = record w { nodes = put w.nodes m y }
@@ -73,18 +73,18 @@ module _ (service : Declarations) (requests : List Request) (seed n m : ℕ) whe
   -- an active node that is handed events is the only one that changes
   takes_are : (es : List Event) (w : ModelWorld) → IsNode (length w.nodes) m → (node_at w.nodes m).up ≡ true → is_active (node_at w.nodes m).role ≡ true
       → with_node w m (take_each service es (begin (node_at w.nodes m))).node ≡ after_doings service requests seed n w (takes_at m es)
-  takes_are [] w there up active = ap (λ (xs : List Here). let v : ModelWorld = record w { nodes = xs } in v) (put_same w.nodes m)
+  takes_are [] w there up active = ap (λ xs. let v : ModelWorld = record w { nodes = xs } in v) (put_same w.nodes m)
   takes_are (e ∷ es) w there up active =
-      ap (λ (xs : List Here). let v : ModelWorld = record w { nodes = xs } in v) (sym (put_again w.nodes m _ _))
-      ∙ ap (λ (h : Here). with_node (with_node w m (take_event service e (begin (node_at w.nodes m))).node) m (take_each service es (begin h)).node) (sym at_first)
-      ∙ takes_are es _ (subst (λ (k : ℕ). IsNode k m) (sym (put_length w.nodes m _)) there)
-      (ap (λ (h : Here). h.up) at_first ∙ up) (ap (λ (h : Here). is_active h.role) at_first ∙ active)
-      ∙ ap (λ (v : ModelWorld). after_doings service requests seed n v (takes_at m es)) (take_is service w m e up active)
+      ap (λ xs. let v : ModelWorld = record w { nodes = xs } in v) (sym (put_again w.nodes m _ _))
+      ∙ ap (λ h. with_node (with_node w m (take_event service e (begin (node_at w.nodes m))).node) m (take_each service es (begin h)).node) (sym at_first)
+      ∙ takes_are es _ (subst (λ k. IsNode k m) (sym (put_length w.nodes m _)) there)
+      (ap (λ h. h.up) at_first ∙ up) (ap (λ h. is_active h.role) at_first ∙ active)
+      ∙ ap (λ v. after_doings service requests seed n v (takes_at m es)) (take_is service w m e up active)
     where
       at_first : node_at (put w.nodes m (take_event service e (begin (node_at w.nodes m))).node) m ≡ (take_event service e (begin (node_at w.nodes m))).node
       at_first =
           node_put w.nodes m _ m there
-          ∙ ap (λ (b : Bool). cond b (take_event service e (begin (node_at w.nodes m))).node (node_at w.nodes m)) (eq-eqb m m refl)
+          ∙ ap (λ b. cond b (take_event service e (begin (node_at w.nodes m))).node (node_at w.nodes m)) (eq-eqb m m refl)
 
 -- a kept world of which a node is handed events is kept
 block_kept : {service : Declarations} (requests : List Request) {seed n m : ℕ} (es : List Event) {w : ModelWorld} → n ≤ most_nodes → IsService service → IsChecked service → IsNode n m → All BeginsInRange es
@@ -113,7 +113,7 @@ module _ {S : Type 0} {service : Declarations} {w : World S} (h : IsRunning serv
   Handed outcome = IsHandedBlock service es (here_at service w.agreed old) (here_at service w.agreed new) outcome
 
   handed_was : {outcome : Result (Unit {0}) Refusal} → Handed outcome → IsHandedBlock service es (node_at before.nodes m) (here_at service w.agreed new) outcome
-  handed_was {outcome} a = subst (λ (x : Here). IsHandedBlock service es x (here_at service w.agreed new) outcome) (sym (at_old _ there new old_is nodes_are service w.agreed)) a
+  handed_was {outcome} a = subst (λ x. IsHandedBlock service es x (here_at service w.agreed new) outcome) (sym (at_old _ there new old_is nodes_are service w.agreed)) a
 
   pub block_refused : {outcome : Result (Unit {0}) Refusal} → Handed outcome → Refuses (refusal_active (node_at before.nodes m)) outcome
   block_refused {outcome} a = (handed_was a).refused
@@ -124,7 +124,7 @@ module _ {S : Type 0} {service : Declarations} {w : World S} (h : IsRunning serv
       let c = handed_was a in
       let n = none_refused (node_at before.nodes m) (ok_due _ c.refused) in
       given_put h there nodes old_is nodes_are stays broken c.takes
-      ∙ takes_are service _ w.seed _ m es before (subst (λ (k : ℕ). IsNode k m) (sym (many_here service w.agreed _)) there) n.0 n.1
+      ∙ takes_are service _ w.seed _ m es before (subst (λ k. IsNode k m) (sym (many_here service w.agreed _)) there) n.0 n.1
 
   pub block_unchanged : (broken : Bool) (outcome : Result (Unit {0}) Refusal) → Handed outcome → OnErr outcome (world_of service (later broken) ≡ before)
   block_unchanged broken (Ok t) a = tt

@@ -41,7 +41,7 @@ use Rattle.rex_world.proofs.Shown.{releases_long}
 module _ (past : List Value) where
   pub messages_both : (xs ys : List (List ℕ)) → messages_of past (xs ++ ys) ≡ messages_of past xs ++ messages_of past ys
   messages_both [] ys = refl
-  messages_both (x ∷ xs) ys = ap (λ (ms : List (Message Value)). message_of past x ∷ ms) (messages_both xs ys)
+  messages_both (x ∷ xs) ys = ap (λ ms. message_of past x ∷ ms) (messages_both xs ys)
 
   pub messages_many : (xs : List (List ℕ)) → length (messages_of past xs) ≡ length xs
   messages_many [] = refl
@@ -51,8 +51,8 @@ module _ (past : List Value) where
   read_again : (ms : List Said) → All HasSpelling ms → messages_of past (map spelling_of ms) ≡ map (message_in past) ms
   read_again [] h = refl
   read_again (m ∷ ms) h =
-      ap (λ (x : Message Value). x ∷ messages_of past (map spelling_of ms)) (ap (read_message past) (message_read m (All-head HasSpelling m ms h)))
-      ∙ ap (λ (xs : List (Message Value)). message_in past m ∷ xs) (read_again ms (All-tail HasSpelling m ms h))
+      ap (λ x. x ∷ messages_of past (map spelling_of ms)) (ap (read_message past) (message_read m (All-head HasSpelling m ms h)))
+      ∙ ap (λ xs. message_in past m ∷ xs) (read_again ms (All-tail HasSpelling m ms h))
 
   -- and a state that it tells is right
   pub one_told : {service : Declarations} {m : Said} → HasSpelling m → IsTold service past m.content → TellsRightly service past (spelling_of m)
@@ -62,8 +62,8 @@ module _ (past : List Value) where
   all_told service [] spelled told = All-nil (TellsRightly service past)
   all_told service (m ∷ ms) spelled told =
       All-cons (TellsRightly service past) (spelling_of m) (map spelling_of ms)
-      (one_told (All-head HasSpelling m ms spelled) (All-head (λ (x : Said). IsTold service past x.content) m ms told))
-      (all_told service ms (All-tail HasSpelling m ms spelled) (All-tail (λ (x : Said). IsTold service past x.content) m ms told))
+      (one_told (All-head HasSpelling m ms spelled) (All-head (λ x. IsTold service past x.content) m ms told))
+      (all_told service ms (All-tail HasSpelling m ms spelled) (All-tail (λ x. IsTold service past x.content) m ms told))
 
 all_spelled : (ms : List Said) → All HasSpelling ms → All IsSpelled (map spelling_of ms)
 all_spelled [] h = All-nil IsSpelled
@@ -82,14 +82,14 @@ put_same (x ∷ xs) m = go (eqb m 1) (put_same xs (m - 1))
   where
     go : (t : Bool) → put xs (m - 1) (node_at xs (m - 1)) ≡ xs → cond t (cond t x (node_at xs (m - 1)) ∷ xs) (x ∷ put xs (m - 1) (cond t x (node_at xs (m - 1)))) ≡ x ∷ xs
     go true h = refl
-    go false h = ap (λ (ys : List Here). x ∷ ys) h
+    go false h = ap (λ ys. x ∷ ys) h
 
 -- saying something that releases no reply changes nothing
 said_only : {w : ModelWorld} (m : ℕ) {e : Effect} → released_to e ≡ None → after w m (say e (begin (node_at w.nodes m))) ≡ only w e
 said_only {w} m {e} none =
-    ap (λ (v : ModelWorld). let r : Row = record { world = v; effects = e ∷ [] } in r)
+    ap (λ v. let r : Row = record { world = v; effects = e ∷ [] } in r)
     (same_world refl (put_same w.nodes m) (append-nil w.messages) (append-nil w.handed)
-    (ap (λ (o : Option ℕ). seen_by_release (stamp_at (node_at w.nodes m)) o w.seen) none))
+    (ap (λ o. seen_by_release (stamp_at (node_at w.nodes m)) o w.seen) none))
 
 -- what a call of a node comes to in the model
 pub served_row : (w : ModelWorld) (m : ℕ) (call : CallHere → CallHere) → after w m (served m call (node_at w.nodes m)) ≡ at_node w m call
@@ -156,11 +156,11 @@ module _ {S : Type 0} {service : Declarations} {w w2 : World S} (h : IsRunning s
 
   saw : w2.seen.items ≡ seen_by_releases (stamp_at d.node) d.effects w.seen.items
   saw =
-      shown ∙ ap (λ (x : Here). seen_by_releases (stamp_at x) step.effects w.seen.items) come.node
-      ∙ ap (λ (es : List Effect). seen_by_releases (stamp_at d.node) es w.seen.items) come.effects
+      shown ∙ ap (λ x. seen_by_releases (stamp_at x) step.effects w.seen.items) come.node
+      ∙ ap (λ es. seen_by_releases (stamp_at d.node) es w.seen.items) come.effects
 
   messages_after : messages_of w.agreed w2.net ≡ messages_of w.agreed w.net ++ map (message_in w.agreed) step.sends
-  messages_after = ap (messages_of w.agreed) tells.sends.net ∙ messages_both w.agreed w.net _ ∙ ap (λ (ms : List (Message Value)). messages_of w.agreed w.net ++ ms) (read_again w.agreed _ tells.sends.spelled)
+  messages_after = ap (messages_of w.agreed) tells.sends.net ∙ messages_both w.agreed w.net _ ∙ ap (λ ms. messages_of w.agreed w.net ++ ms) (read_again w.agreed _ tells.sends.spelled)
 
   -- the world is the one of the model after the call
   world_after : world_of service w2 ≡ (after (world_of service w) m d).world
@@ -168,17 +168,17 @@ module _ {S : Type 0} {service : Declarations} {w w2 : World S} (h : IsRunning s
       ap (world_of service) tells.rest
       ∙ same_world
       refl nodes_are
-      (messages_after ∙ ap (λ (ms : List (Message Value)). messages_of w.agreed w.net ++ ms) come.sends)
-      (tells.sends.handed ∙ ap (λ (k : ℕ). w.handed.items ++ replicate k false) (sym (length-map step.sends (message_in w.agreed)) ∙ ap length come.sends))
+      (messages_after ∙ ap (λ ms. messages_of w.agreed w.net ++ ms) come.sends)
+      (tells.sends.handed ∙ ap (λ k. w.handed.items ++ replicate k false) (sym (length-map step.sends (message_in w.agreed)) ∙ ap length come.sends))
       saw
 
   did_after : Did (world_of service w) (world_of service w2) told told2 (after (world_of service w) m d)
   did_after = record {
     world = world_after;
-    effects = tells.effects ∙ ap (λ (es : List Effect). told.effects.items ++ es) come.effects;
-    sent = tells.sends.sent ∙ ap (λ (es : List Effect). told.sent.items ++ es) (sent_alike w.agreed _ _) ∙ ap (λ (es : List Effect). told.sent.items ++ es)
-        (ap (λ (k : ℕ). sent_from (suc k) (map (message_in w.agreed) step.sends)) (sym (messages_many w.agreed w.net))
-        ∙ ap (λ (ms : List (Message Value)). sent_from (suc (length (messages_of w.agreed w.net))) ms) (come.sends ∙ sym (drop-append_seam (messages_of w.agreed w.net) d.sends)));
+    effects = tells.effects ∙ ap (λ es. told.effects.items ++ es) come.effects;
+    sent = tells.sends.sent ∙ ap (λ es. told.sent.items ++ es) (sent_alike w.agreed _ _) ∙ ap (λ es. told.sent.items ++ es)
+        (ap (λ k. sent_from (suc k) (map (message_in w.agreed) step.sends)) (sym (messages_many w.agreed w.net))
+        ∙ ap (λ ms. sent_from (suc (length (messages_of w.agreed w.net))) ms) (come.sends ∙ sym (drop-append_seam (messages_of w.agreed w.net) d.sends)));
   }
 
   front_after : w.flushed ≤ length w.handed.items → take w.flushed w2.handed.items ≡ take w.flushed w.handed.items
@@ -191,15 +191,15 @@ module _ {S : Type 0} {service : Declarations} {w w2 : World S} (h : IsRunning s
         service_is = h.service_is;
         checked = h.checked;
         whole = h.whole;
-        few = subst (λ (k : ℕ). k ≤ most_nodes) (sym many) h.few;
-        kept = subst (λ (k : ℕ). IsKept service w.seed k (world_of service sent_world)) (sym many) (subst (λ (v : World S). IsKept service w.seed (nodes_of w) (world_of service v)) tells.rest kept);
-        members = subst (λ (k : ℕ). AreMembers service w.agreed w.seed k 1 nodes.items) (sym many) all.members;
+        few = subst (λ k. k ≤ most_nodes) (sym many) h.few;
+        kept = subst (λ k. IsKept service w.seed k (world_of service sent_world)) (sym many) (subst (λ v. IsKept service w.seed (nodes_of w) (world_of service v)) tells.rest kept);
+        members = subst (λ k. AreMembers service w.agreed w.seed k 1 nodes.items) (sym many) all.members;
         within = all.within;
         told = subst (All (TellsRightly service w.agreed)) (sym tells.sends.net) (All-append (TellsRightly service w.agreed) w.net (map spelling_of step.sends) h.told (all_told w.agreed service _ tells.sends.spelled told_right));
         spelled = subst (All IsSpelled) (sym tells.sends.net) (All-append IsSpelled w.net (map spelling_of step.sends) h.spelled (all_spelled _ tells.sends.spelled));
         requests = h.requests;
         flushed = omega (arith, ap length tells.sends.handed, length-append w.handed.items (replicate (length step.sends) false), h.flushed);
-        handed = subst (λ (hs : List Bool). list_all (λ (b : Bool). b) hs ≡ true) (sym (front_after h.flushed)) h.handed;
+        handed = subst (λ hs. list_all (λ b. b) hs ≡ true) (sym (front_after h.flushed)) h.handed;
         clients = ap length shown ∙ releases_long (stamp_at (node_at (heres service w.agreed nodes.items) m)) step.effects _ ∙ h.clients;
       })
 
@@ -208,8 +208,8 @@ module _ {S : Type 0} {service : Declarations} {w w2 : World S} (h : IsRunning s
   comes_after many all told_right kept = record {
     did = did_after;
     works = running_after many all told_right (subst (IsKept service w.seed (nodes_of w)) (sym world_after) kept);
-    same = record { nodes = ap nodes_of tells.rest ∙ many; requests = ap (λ (v : World S). v.requests) tells.rest; seed = ap (λ (v : World S). v.seed) tells.rest };
-    done = ap (λ (v : World S). v.done) tells.rest;
-    flushed = ap (λ (v : World S). v.flushed) tells.rest;
-    stood = ap (λ (v : World S). v.agreed) tells.rest;
+    same = record { nodes = ap nodes_of tells.rest ∙ many; requests = ap (λ v. v.requests) tells.rest; seed = ap (λ v. v.seed) tells.rest };
+    done = ap (λ v. v.done) tells.rest;
+    flushed = ap (λ v. v.flushed) tells.rest;
+    stood = ap (λ v. v.agreed) tells.rest;
   }

@@ -42,10 +42,10 @@ unarmed_append None old bytes e h = h
 unarmed_append (Some fate) old bytes e h = absurd (cc)
 
 appended : (old : KeeperValue) {new : KeeperValue} (bytes : List ℕ) → old.armed ≡ None → follows old bytes done new → new.armed ≡ None
-appended old {new} bytes unarmed h = ap (λ (k : KeeperValue). k.armed) (unarmed_append old.armed old bytes unarmed h.1) ∙ unarmed
+appended old {new} bytes unarmed h = ap (λ k. k.armed) (unarmed_append old.armed old bytes unarmed h.1) ∙ unarmed
 
 stays : (old new : KeeperValue) (written : List (List ℕ)) → old.armed ≡ None → AppendsInTurn follows old written done new → new.armed ≡ None
-stays old new [] unarmed h = ap (λ (k : KeeperValue). k.armed) h.1 ∙ unarmed
+stays old new [] unarmed h = ap (λ k. k.armed) h.1 ∙ unarmed
 stays old new (bytes ∷ later) unarmed h = by h.0 h.1 h.2 (λ k ok chain. stays k new later ok chain) h.3
   where
     by : (answer : Answer) (k : KeeperValue) → follows old bytes answer k → ((j : KeeperValue) → j.armed ≡ None → AppendsInTurn follows j later done new → new.armed ≡ None) → MatchResult answer (λ _. AppendsInTurn follows k later done new) (λ e. (done ≡ Err e) × (new ≡ k)) → new.armed ≡ None
@@ -79,12 +79,12 @@ failed_to fate bytes old broken = record (appended_as (Some fate) bytes old) { b
 kept_as : (fate : Fate) (kept : Bool) (old : KeeperValue) {new : KeeperValue} (bytes : List ℕ) → new ≡ failed_to fate bytes old new.broken → new.records ≡ failed_records kept old.records bytes → let f : Option Failure = Some (After 0 kept) in f ≡ armed_of (Some fate)
 kept_as Kept true old bytes is grown = refl
 kept_as Lost false old bytes is grown = refl
-kept_as Kept false old bytes is grown = absurd (let n = length-append old.records (bytes ∷ []) in let e = ap (λ (k : KeeperValue). length k.records) is in let g = ap length grown in omega arith)
-kept_as Lost true old bytes is grown = absurd (let n = length-append old.records (bytes ∷ []) in let e = ap (λ (k : KeeperValue). length k.records) is in let g = ap length grown in omega arith)
+kept_as Kept false old bytes is grown = absurd (let n = length-append old.records (bytes ∷ []) in let e = ap (λ k. length k.records) is in let g = ap length grown in omega arith)
+kept_as Lost true old bytes is grown = absurd (let n = length-append old.records (bytes ∷ []) in let e = ap (λ k. length k.records) is in let g = ap length grown in omega arith)
 
 unarmed_then : (fate : Fate) (old : KeeperValue) {new : KeeperValue} (bytes : List ℕ) → new ≡ failed_to fate bytes old new.broken → (new.armed ≡ None) × (faults_of new ≡ old.faults + 1)
-unarmed_then Kept old bytes is = (ap (λ (k : KeeperValue). k.armed) is, ap faults_of is ∙ let e : old.faults + 1 + 0 ≡ old.faults + 1 = omega arith in e)
-unarmed_then Lost old bytes is = (ap (λ (k : KeeperValue). k.armed) is, ap faults_of is ∙ let e : old.faults + 1 + 0 ≡ old.faults + 1 = omega arith in e)
+unarmed_then Kept old bytes is = (ap (λ k. k.armed) is, ap faults_of is ∙ let e : old.faults + 1 + 0 ≡ old.faults + 1 = omega arith in e)
+unarmed_then Lost old bytes is = (ap (λ k. k.armed) is, ap faults_of is ∙ let e : old.faults + 1 + 0 ≡ old.faults + 1 = omega arith in e)
 
 -- appends that go well leave it to be reopened, or not, as before
 same_broken : (armed : Option Fate) (bytes : List ℕ) (old : KeeperValue) → (appended_as armed bytes old).broken ≡ old.broken
@@ -93,11 +93,11 @@ same_broken (Some Kept) bytes old = refl
 same_broken (Some Lost) bytes old = refl
 
 pub stays_broken : (old new : KeeperValue) (written : List (List ℕ)) → AppendsInTurn follows old written done new → new.broken ≡ old.broken
-stays_broken old new [] h = ap (λ (k : KeeperValue). k.broken) h.1
+stays_broken old new [] h = ap (λ k. k.broken) h.1
 stays_broken old new (bytes ∷ later) h = by h.0 h.1 h.2 (λ k chain. stays_broken k new later chain) h.3
   where
     by : (answer : Answer) (k : KeeperValue) → follows old bytes answer k → ((j : KeeperValue) → AppendsInTurn follows j later done new → new.broken ≡ j.broken) → MatchResult answer (λ _. AppendsInTurn follows k later done new) (λ e. (done ≡ Err e) × (new ≡ k)) → new.broken ≡ old.broken
-    by (Ok x) k g next chain = next k chain ∙ (ap (λ (j : KeeperValue). j.broken) g.1 ∙ same_broken old.armed bytes old)
+    by (Ok x) k g next chain = next k chain ∙ (ap (λ j. j.broken) g.1 ∙ same_broken old.armed bytes old)
     by (Err e) k g next end = absurd (let no : done ≡ fault_of e = end.0 in cc)
 
 -- ---- a node's step is the model's call
@@ -114,11 +114,11 @@ module _ (service : Declarations) (past : List Value) {call : CallHere → CallH
 
   -- this failure is that of the node's keeper
   at_failure : {f : Option Failure} → f ≡ armed_of old.keeper.armed → call (armed_as f (begin before)) ≡ call (begin (here_at service past old))
-  at_failure e = ap (λ (g : Option Failure). call (armed_as g (begin before))) e
+  at_failure e = ap (λ g. call (armed_as g (begin before))) e
 
   -- and the keeper isn't armed then
   disarmed_then : new.keeper.armed ≡ None → came ≡ armed_as (armed_of new.keeper.armed) came
-  disarmed_then e = ap (λ (a : Option Fate). armed_as (armed_of a) came) (sym e)
+  disarmed_then e = ap (λ a. armed_as (armed_of a) came) (sym e)
 
   well : (armed : Option Fate) → old.keeper.armed ≡ armed → GoesWell records_of follows (λ k. k.faults) service call old.keeper new.keeper (begin before) came → Same × (faults_of new.keeper ≤ faults_of old.keeper)
   well None e h =
@@ -130,11 +130,11 @@ module _ (service : Declarations) (past : List Value) {call : CallHere → CallH
       )
   well (Some fate) e h =
       let none = none_written h.written e h.appends in
-      let many : length (call (begin before)).node.log ≡ length before.log = omega (arith, ap (λ (d : CallHere). length d.node.log) h.is, h.many, ap length none.0) in
+      let many : length (call (begin before)).node.log ≡ length before.log = omega (arith, ap (λ d. length d.node.log) h.is, h.many, ap length none.0) in
       let a = ap faults_of none.1 in (
         unseen _ (goes (armed_of old.keeper.armed)) refl many
             ∙ ap (armed_as (armed_of old.keeper.armed)) h.is
-            ∙ ap (λ (k : KeeperValue). armed_as (armed_of k.armed) came) (sym none.1),
+            ∙ ap (λ k. armed_as (armed_of k.armed) came) (sym none.1),
         omega arith,
       )
 
@@ -143,11 +143,11 @@ module _ (service : Declarations) (past : List Value) {call : CallHere → CallH
   fails (Some fate) e h =
       let none = none_written h.written e h.appends in
       let is : new.keeper ≡ failed_to fate h.bytes old.keeper new.keeper.broken =
-      subst (λ (k : KeeperValue). new.keeper ≡ record (appended_as k.armed h.bytes k) { broken = new.keeper.broken }) none.1 h.fails.1 ∙ ap (λ (a : Option Fate). let k : KeeperValue = record (appended_as a h.bytes old.keeper) { broken = new.keeper.broken } in k) e in
+      subst (λ k. new.keeper ≡ record (appended_as k.armed h.bytes k) { broken = new.keeper.broken }) none.1 h.fails.1 ∙ ap (λ a. let k : KeeperValue = record (appended_as a h.bytes old.keeper) { broken = new.keeper.broken } in k) e in
       let grown : new.keeper.records ≡ failed_records h.kept old.keeper.records h.bytes =
-      h.grown ∙ ap (λ (ws : List (List ℕ)). failed_records h.kept (old.keeper.records ++ ws) h.bytes) none.0 ∙ ap (λ (rs : List (List ℕ)). failed_records h.kept rs h.bytes) (append-nil old.keeper.records) in
+      h.grown ∙ ap (λ ws. failed_records h.kept (old.keeper.records ++ ws) h.bytes) none.0 ∙ ap (λ rs. failed_records h.kept rs h.bytes) (append-nil old.keeper.records) in
       let failure : let f : Option Failure = Some (After (length h.written) h.kept) in f ≡ armed_of old.keeper.armed =
-      ap (λ (ws : List (List ℕ)). let f : Option Failure = Some (After (length ws) h.kept) in f) none.0 ∙ kept_as fate h.kept _ h.bytes is grown ∙ sym (ap armed_of e) in
+      ap (λ ws. let f : Option Failure = Some (After (length ws) h.kept) in f) none.0 ∙ kept_as fate h.kept _ h.bytes is grown ∙ sym (ap armed_of e) in
       let then = unarmed_then fate _ h.bytes is in
       let a = then.1 in
       let b = ap failing e in (
@@ -162,7 +162,7 @@ module _ (service : Declarations) (past : List Value) {call : CallHere → CallH
   pub is_done : old.up ≡ true → Does records_of follows (λ k. k.faults) service past call old new step → IsDone past call (here_at service past old) (here_at service past new) step
   is_done up does =
       let same = (comes does).0 in
-      record { up = up; node = ap (λ (d : CallHere). d.node) (sym same); sends = ap (λ (d : CallHere). d.sends) (sym same); effects = ap (λ (d : CallHere). d.effects) (sym same) }
+      record { up = up; node = ap (λ d. d.node) (sym same); sends = ap (λ d. d.sends) (sym same); effects = ap (λ d. d.effects) (sym same) }
 
   -- the keeper fails no more often than it was to
   pub stays_within : Does records_of follows (λ k. k.faults) service past call old new step → faults_of new.keeper ≤ faults_of old.keeper

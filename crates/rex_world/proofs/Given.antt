@@ -38,12 +38,12 @@ use Rattle.rex_world.proofs.Placed.{all_stay, at_old, many_are, now_put}
 
 module _ (service : Declarations) (past : List Value) (x y : NodeValue KeeperValue) (e : Event) (keeper : y.keeper ≡ x.keeper) where
   armed_same : armed_of y.keeper.armed ≡ armed_of x.keeper.armed
-  armed_same = ap (λ (k : KeeperValue). armed_of k.armed) keeper
+  armed_same = ap (λ k. armed_of k.armed) keeper
 
   leads : (t : Turn) → LeadsTo (taken t) (here_of records_of service past x) (here_of records_of service past y) → LeadsTo (taken t) (here_at service past x) (here_at service past y)
   leads t h =
-      ap (λ (n : Here). let m : Here = record n { armed = armed_of y.keeper.armed } in m) h
-      ∙ ap (λ (a : Option Failure). let m : Here = record (taken t (begin (here_of records_of service past x))).node { armed = a } in m) armed_same
+      ap (λ n. let m : Here = record n { armed = armed_of y.keeper.armed } in m) h
+      ∙ ap (λ a. let m : Here = record (taken t (begin (here_of records_of service past x))).node { armed = a } in m) armed_same
 
   pub handed : (outcome : Result Turn Refusal) → Refuses (refusal_active (here_of records_of service past x)) outcome → IfOk outcome (λ (t : Turn). t ≡ taken_in service (here_of records_of service past x) e)
       → IfOk outcome (λ (t : Turn). LeadsTo (taken t) (here_of records_of service past x) (here_of records_of service past y)) → OnErr outcome (y ≡ x) → IsHanded service e (here_at service past x) (here_at service past y) outcome
@@ -79,8 +79,8 @@ module _ (service : Declarations) (w : ModelWorld) (m : ℕ) (e : Event) where
   take_is up active =
       same_world
        refl refl (sym (append-nil w.messages)) (sym (append-nil w.handed)) refl
-      ∙ sym (ap (λ (t : Bool). (after w m (active_only t (begin (node_at w.nodes m)) (take_event service e (begin (node_at w.nodes m))))).world) active)
-      ∙ sym (ap (λ (t : Bool). (if_up t w m (active_only (is_active (node_at w.nodes m).role) (begin (node_at w.nodes m)) (take_event service e (begin (node_at w.nodes m))))).world) up)
+      ∙ sym (ap (λ t. (after w m (active_only t (begin (node_at w.nodes m)) (take_event service e (begin (node_at w.nodes m))))).world) active)
+      ∙ sym (ap (λ t. (if_up t w m (active_only (is_active (node_at w.nodes m).role) (begin (node_at w.nodes m)) (take_event service e (begin (node_at w.nodes m))))).world) up)
 
 -- nothing that a node knows changes when it is handed an event
 pub take_agreed : (service : Declarations) (w : ModelWorld) (m : ℕ) (e : Event) → agreed (take service w m e) ≡ agreed w
@@ -117,13 +117,13 @@ module _ {S : Type 0} {service : Declarations} {w : World S} (h : IsRunning serv
   -- only this node is another one
   pub given_put : (broken : Bool) {y : Here} → here_at service w.agreed new ≡ y → (let v : ModelWorld = record before { nodes = put before.nodes m y } in world_of service (later broken) ≡ v)
   given_put broken e =
-      ap (λ (xs : List Here). let v : ModelWorld = record before { nodes = xs } in v) (now_put _ there new old_is nodes_are service w.agreed ∙ ap (put before.nodes m) e)
+      ap (λ xs. let v : ModelWorld = record before { nodes = xs } in v) (now_put _ there new old_is nodes_are service w.agreed ∙ ap (put before.nodes m) e)
 
   -- it is as it was
   pub given_still : (broken : Bool) → here_at service w.agreed new ≡ here_at service w.agreed old → world_of service (later broken) ≡ before
   given_still broken e =
       given_put broken (e ∙ sym was)
-      ∙ ap (λ (xs : List Here). let v : ModelWorld = record before { nodes = xs } in v) (put_same _ m)
+      ∙ ap (λ xs. let v : ModelWorld = record before { nodes = xs } in v) (put_same _ m)
 
   -- where the model's world is kept, and what is agreed on stays, the world runs
   pub given_running : IsKept service w.seed (nodes_of w) (world_of service (later w.broken)) → w.agreed ≡ agreed (world_of service (later w.broken)) → IsRunning service (later w.broken)
@@ -133,10 +133,10 @@ module _ {S : Type 0} {service : Declarations} {w : World S} (h : IsRunning serv
         service_is = h.service_is;
         checked = h.checked;
         whole = h.whole;
-        few = subst (λ (n : ℕ). n ≤ most_nodes) (sym many) h.few;
+        few = subst (λ n. n ≤ most_nodes) (sym many) h.few;
         agreed = agreed_is;
-        kept = subst (λ (n : ℕ). IsKept service w.seed n (world_of service (later w.broken))) (sym many) kept;
-        members = subst (λ (n : ℕ). AreMembers service w.agreed w.seed n 1 nodes.items) (sym many) all.members;
+        kept = subst (λ n. IsKept service w.seed n (world_of service (later w.broken))) (sym many) kept;
+        members = subst (λ n. AreMembers service w.agreed w.seed n 1 nodes.items) (sym many) all.members;
         within = all.within;
         spelled = h.spelled;
         told = h.told;
@@ -151,7 +151,7 @@ module _ {S : Type 0} {service : Declarations} {w : World S} (h : IsRunning serv
     Handed outcome = IsHanded service e (here_at service w.agreed old) (here_at service w.agreed new) outcome
 
     handed_was : {outcome : Result Turn Refusal} → Handed outcome → IsHanded service e (node_at before.nodes m) (here_at service w.agreed new) outcome
-    handed_was {outcome} a = subst (λ (x : Here). IsHanded service e x (here_at service w.agreed new) outcome) (sym was) a
+    handed_was {outcome} a = subst (λ x. IsHanded service e x (here_at service w.agreed new) outcome) (sym was) a
 
     pub given_refused : {outcome : Result Turn Refusal} → Handed outcome → Refuses (refusal_active (node_at before.nodes m)) outcome
     given_refused {outcome} a = (handed_was a).refused
@@ -164,7 +164,7 @@ module _ {S : Type 0} {service : Declarations} {w : World S} (h : IsRunning serv
     given_world broken (Ok t) a =
         let b = handed_was a in
         let n = none_refused (node_at before.nodes m) (ok_none _ t b.refused) in
-        given_put broken (b.takes ∙ ap (λ (u : Turn). (taken u (begin (node_at before.nodes m))).node) b.told)
+        given_put broken (b.takes ∙ ap (λ u. (taken u (begin (node_at before.nodes m))).node) b.told)
         ∙ take_is service before m e n.0 n.1
 
     pub given_unchanged : (broken : Bool) (outcome : Result Turn Refusal) → Handed outcome → OnErr outcome (world_of service (later broken) ≡ before)

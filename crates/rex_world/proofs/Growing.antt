@@ -96,7 +96,7 @@ module _ (service : Declarations) (seed : ℕ) (past : List Value) where
         let n : i ≡ length values + 1 = eqb-true i (length values + 1) e in
         let same : known log ≡ values = same_fronts _ values all (begins_on _ (v ∷ [], refl) begins) c.begins (omega (arith, n, due)) in
         record {
-          begins = subst (λ (vs : List Value). Begins (vs ++ v ∷ []) all) same begins;
+          begins = subst (λ vs. Begins (vs ++ v ∷ []) all) same begins;
           long = let l = c.long in omega (arith, l, length-append values (v ∷ []));
           known_few = let l = c.known_few in omega (arith, l, length-append (known log) (v ∷ []), length-append values (v ∷ []));
         }
@@ -136,7 +136,7 @@ module _ (service : Declarations) (seed : ℕ) (past : List Value) where
         by (Err at) e later =
             let now : with_one log bytes ≡ log = ap (log_with service past log) e in
             let l = few_behind lists log in
-            let n : length (log_behind service past log lists) ≡ suc (length lists) + length log = ap (λ (g : Log). length (log_behind service past g lists)) (sym now) ∙ many in
+            let n : length (log_behind service past log lists) ≡ suc (length lists) + length log = ap (λ g. length (log_behind service past g lists)) (sym now) ∙ many in
             absurd (omega (arith, l, n))
         by (Ok r) e later =
             let now : with_one log bytes ≡ rec_of service past r ∷ log = ap (log_with service past log) e in
@@ -144,9 +144,9 @@ module _ (service : Declarations) (seed : ℕ) (past : List Value) where
             let f = few_behind lists (with_one log bytes) in
             let front = all_front lists (with_one log bytes) good in
             let one : KeepsUp (rec_of service past r ∷ log) (learned_of values r) =
-            keeps_one bytes r e (subst (λ (g : Log). Begins (known g) all) now (begins_on (known (with_one log bytes)) front.1 begins)) c in
+            keeps_one bytes r e (subst (λ g. Begins (known g) all) now (begins_on (known (with_one log bytes)) front.1 begins)) c in
             later (omega (arith, many, l, f))
-            (subst (λ (g : Log). KeepsUp g (learned_in values bytes)) (sym now) (subst (KeepsUp (rec_of service past r ∷ log)) (sym (learned_as (standing_in log) bytes values e)) one))
+            (subst (λ g. KeepsUp g (learned_in values bytes)) (sym now) (subst (KeepsUp (rec_of service past r ∷ log)) (sym (learned_as (standing_in log) bytes values e)) one))
 
 -- ---- nodes beside more values
 
@@ -166,12 +166,12 @@ module _ (service : Declarations) (past values : List Value) (fits : list_all (s
     up = λ up.
         let u = h.up up in
         let begins : Begins (first x.offset past) values =
-        begins_on _ (x.known, refl) (subst (λ (vs : List Value). Begins vs values) (sym u.known) a.knows_front) in
+        begins_on _ (x.known, refl) (subst (λ vs. Begins vs values) (sym u.known) a.knows_front) in
         let low = past_has service x.offset past values fits begins in
-        let same_knows : knows values x ≡ knows past x = ap (λ (vs : List Value). vs ++ x.known) (first_grown service past values fits front low) in
+        let same_knows : knows values x ≡ knows past x = ap (λ vs. vs ++ x.known) (first_grown service past values fits front low) in
         let same_here : here_of records_of service values x ≡ here_of records_of service past x =
-        ap (λ (log : List (Rec Value StateValue)). let y : Here = record (here_of records_of service past x) { log = log } in y) (log_grown service past values fits front x.keeper.records a.takes) in
-        subst (λ (vs : List Value). let y : NodeValue KeeperValue = record x { known = vs } in IsUp service y (here_of records_of service values x)) (sym same_knows)
+        ap (λ log. let y : Here = record (here_of records_of service past x) { log = log } in y) (log_grown service past values fits front x.keeper.records a.takes) in
+        subst (λ vs. let y : NodeValue KeeperValue = record x { known = vs } in IsUp service y (here_of records_of service values x)) (sym same_knows)
         (subst (IsUp service (whole past x)) (sym same_here) u);
     reached = reached_beside service past values x h.reached;
     decoded = h.decoded;
@@ -180,7 +180,7 @@ module _ (service : Declarations) (past values : List Value) (fits : list_all (s
 
   -- which is the same node of the model
   pub here_grown : (x : Member) → Agrees (here_at service past x) → here_at service values x ≡ here_at service past x
-  here_grown x a = ap (λ (log : List (Rec Value StateValue)). let y : Here = record (here_at service past x) { log = log } in y) (log_grown service past values fits front x.keeper.records a.takes)
+  here_grown x a = ap (λ log. let y : Here = record (here_at service past x) { log = log } in y) (log_grown service past values fits front x.keeper.records a.takes)
 
   member_grown : {seed nodes number : ℕ} {x : Member} → Agrees (here_at service past x) → IsMember service past seed nodes number x → IsMember service values seed nodes number x
   member_grown {x} a h = record {
@@ -202,8 +202,8 @@ module _ (service : Declarations) (past values : List Value) (fits : list_all (s
   pub heres_grown : (xs : List Member) → EachAgrees xs → heres service values xs ≡ heres service past xs
   heres_grown [] each = refl
   heres_grown (x ∷ xs) each =
-      ap (λ (y : Here). y ∷ heres service values xs) (here_grown x (each 1 (omega arith, omega arith)))
-      ∙ ap (λ (ys : List Here). here_at service past x ∷ ys) (heres_grown xs (others_agree x xs each))
+      ap (λ y. y ∷ heres service values xs) (here_grown x (each 1 (omega arith, omega arith)))
+      ∙ ap (λ ys. here_at service past x ∷ ys) (heres_grown xs (others_agree x xs each))
 
   pub members_grown : (seed nodes number : ℕ) (xs : List Member) → EachAgrees xs → AreMembers service past seed nodes number xs → AreMembers service values seed nodes number xs
   members_grown seed nodes number [] each h = tt
@@ -228,17 +228,17 @@ module _ {S : Type 0} (service : Declarations) (w x : World S) (h : IsRunning se
     all = agreed (world_of service unsettled)
 
     in_both : {q : ℕ} → IsNode (length nodes) q → IsNode (nodes_of x) q
-    in_both {q} l = subst (λ (n : ℕ). IsNode n q) (many_here service w.agreed _) l
+    in_both {q} l = subst (λ n. IsNode n q) (many_here service w.agreed _) l
 
     here : IsNode (nodes_of x) m
-    here = subst (λ (n : ℕ). IsNode n m) (sym many) there
+    here = subst (λ n. IsNode n m) (sym many) there
 
     begins : (q : ℕ) → IsNode (nodes_of x) q → Begins (known (node_at nodes q).log) all
     begins q l = known_begins _ _ _ works.kept.world q l
 
     fits : list_all (spells service) all ≡ true
     fits =
-        holds_of_longest (λ (vs : List Value). list_all (spells service) vs ≡ true) nodes refl
+        holds_of_longest (λ vs. list_all (spells service) vs ≡ true) nodes refl
         (λ q l. (and_parts (list_all (spells service) (known (node_at nodes q).log)) (runs service (trace_of (known (node_at nodes q).log)))
         ((next_fits service x.seed _ _ works.kept.world).known q (in_both l))).0)
 
@@ -258,7 +258,7 @@ module _ {S : Type 0} (service : Declarations) (w x : World S) (h : IsRunning se
     behind : log_of service w.agreed (records_at x.nodes.items m) ≡ new_log
     behind =
         ap (log_of service w.agreed) (sym grown.1)
-        ∙ fold-append (λ (log : List (Rec Value StateValue)) (bytes : List ℕ). log_with service w.agreed log (record_in (standing_in log) bytes)) [] old_records grown.0
+        ∙ fold-append (λ log bytes. log_with service w.agreed log (record_in (standing_in log) bytes)) [] old_records grown.0
 
     new_is : (node_at nodes m).log ≡ new_log
     new_is = log_is _ here service w.agreed ∙ behind
@@ -275,52 +275,52 @@ module _ {S : Type 0} (service : Declarations) (w x : World S) (h : IsRunning se
     -- another node is as it was
     at_node : (q : ℕ) → node_at nodes q ≡ cond (eqb q m) (node_at nodes m) (node_at before q)
     at_node q =
-        ap (λ (xs : List Here). node_at xs q) others
-        ∙ node_put before m _ q (subst (λ (n : ℕ). IsNode n m) (sym (many_here service w.agreed _)) there)
+        ap (λ xs. node_at xs q) others
+        ∙ node_put before m _ q (subst (λ n. IsNode n m) (sym (many_here service w.agreed _)) there)
 
     -- what was agreed on begins what is
     front : Begins w.agreed all
     front =
-        subst (λ (vs : List Value). Begins vs all) (sym h.agreed)
-        (holds_of_longest (λ (vs : List Value). Begins vs all) before (all, refl) (λ q l. by q (subst (λ (n : ℕ). IsNode n q) (many_here service w.agreed _ ∙ sym many) l) (eqb q m) refl))
+        subst (λ vs. Begins vs all) (sym h.agreed)
+        (holds_of_longest (λ vs. Begins vs all) before (all, refl) (λ q l. by q (subst (λ n. IsNode n q) (many_here service w.agreed _ ∙ sym many) l) (eqb q m) refl))
       where
         by : (q : ℕ) → IsNode (nodes_of x) q → (b : Bool) → eqb q m ≡ b → Begins (known (node_at before q).log) all
         by q l true e =
             let same : q ≡ m = eqb-true q m e in
-            subst (λ (k : ℕ). Begins (known (node_at before k).log) all) (sym same)
-            (subst (λ (log : List (Rec Value StateValue)). Begins (known log) all) (sym old_is)
+            subst (λ k. Begins (known (node_at before k).log) all) (sym same)
+            (subst (λ log. Begins (known log) all) (sym old_is)
             (begins_on _ (all_front service x.seed w.agreed grown.0 old_log sorted).1
-            (subst (λ (log : List (Rec Value StateValue)). Begins (known log) all) new_is (begins m here))))
+            (subst (λ log. Begins (known log) all) new_is (begins m here))))
         by q l false e =
-            subst (λ (y : Here). Begins (known y.log) all) (at_node q ∙ ap (λ (b : Bool). cond b (node_at nodes m) (node_at before q)) e) (begins q l)
+            subst (λ y. Begins (known y.log) all) (at_node q ∙ ap (λ b. cond b (node_at nodes m) (node_at before q)) e) (begins q l)
 
     kept_up : KeepsUp service x.seed w.agreed all fits new_log (learned w.agreed grown.0)
     kept_up =
         keeps_all service x.seed w.agreed all fits grown.0
         (let e = ap length behind in let f = ap length grown.1 in let g = length-append old_records grown.0 in omega (arith, e, f, g, old_read, new_read))
-        sorted (subst (λ (log : List (Rec Value StateValue)). Begins (known log) all) new_is (begins m here))
+        sorted (subst (λ log. Begins (known log) all) new_is (begins m here))
         (record {
           begins = front;
           long = le_refl (length w.agreed);
           known_few =
               let most = longest_most before m in
-              omega (arith, most, ap (λ (log : List (Rec Value StateValue)). length (known log)) old_is, ap length h.agreed);
+              omega (arith, most, ap (λ log. length (known log)) old_is, ap length h.agreed);
         })
 
     -- and what was learned is all that is
     pub learned_all : learned w.agreed grown.0 ≡ all
-    learned_all = whole_front _ all kept_up.begins (holds_of_longest (λ (vs : List Value). length vs ≤ length (learned w.agreed grown.0)) nodes (omega arith) (λ q l. by q (eqb q m) refl))
+    learned_all = whole_front _ all kept_up.begins (holds_of_longest (λ vs. length vs ≤ length (learned w.agreed grown.0)) nodes (omega arith) (λ q l. by q (eqb q m) refl))
       where
         by : (q : ℕ) (b : Bool) → eqb q m ≡ b → length (known (node_at nodes q).log) ≤ length (learned w.agreed grown.0)
         by q true e =
             let same : q ≡ m = eqb-true q m e in
             let l = kept_up.known_few in
-            omega (arith, l, ap (λ (log : List (Rec Value StateValue)). length (known log)) new_is, ap (λ (k : ℕ). length (known (node_at nodes k).log)) same)
+            omega (arith, l, ap (λ log. length (known log)) new_is, ap (λ k. length (known (node_at nodes k).log)) same)
         by q false e =
-            let was : node_at nodes q ≡ node_at before q = at_node q ∙ ap (λ (b : Bool). cond b (node_at nodes m) (node_at before q)) e in
+            let was : node_at nodes q ≡ node_at before q = at_node q ∙ ap (λ b. cond b (node_at nodes m) (node_at before q)) e in
             let most = longest_most before q in
             let l = kept_up.long in
-            omega (arith, most, l, ap (λ (y : Here). length (known y.log)) was, ap length h.agreed)
+            omega (arith, most, l, ap (λ y. length (known y.log)) was, ap length h.agreed)
 
     agree : (q : ℕ) → IsNode (nodes_of x) q → Agrees service w.agreed all fits front (node_at nodes q)
     agree q l = record {
@@ -336,8 +336,8 @@ module _ {S : Type 0} (service : Declarations) (w x : World S) (h : IsRunning se
       pub settled_world : world_of service x ≡ world_of service unsettled
       settled_world =
           same_world refl
-          (ap (λ (vs : List Value). heres service vs x.nodes.items) is_all ∙ heres_grown service w.agreed all fits front _ agree)
-          (ap (λ (vs : List Value). messages_of vs x.net) is_all ∙ (messages_grown service w.agreed all fits front x.net works.told).1)
+          (ap (λ vs. heres service vs x.nodes.items) is_all ∙ heres_grown service w.agreed all fits front _ agree)
+          (ap (λ vs. messages_of vs x.net) is_all ∙ (messages_grown service w.agreed all fits front x.net works.told).1)
           refl refl
 
       -- and the world runs
@@ -349,10 +349,10 @@ module _ {S : Type 0} (service : Declarations) (w x : World S) (h : IsRunning se
         few = works.few;
         kept = subst (IsKept service x.seed (nodes_of x)) (sym settled_world) works.kept;
         agreed = is_all ∙ ap agreed (sym settled_world);
-        members = subst (λ (vs : List Value). AreMembers service vs x.seed (nodes_of x) 1 x.nodes.items) (sym is_all) (members_grown service w.agreed all fits front x.seed _ 1 _ agree works.members);
+        members = subst (λ vs. AreMembers service vs x.seed (nodes_of x) 1 x.nodes.items) (sym is_all) (members_grown service w.agreed all fits front x.seed _ 1 _ agree works.members);
         within = works.within;
         spelled = works.spelled;
-        told = subst (λ (vs : List Value). All (TellsRightly service vs) x.net) (sym is_all) (messages_grown service w.agreed all fits front x.net works.told).0;
+        told = subst (λ vs. All (TellsRightly service vs) x.net) (sym is_all) (messages_grown service w.agreed all fits front x.net works.told).0;
         requests = works.requests;
         flushed = works.flushed;
         handed = works.handed;

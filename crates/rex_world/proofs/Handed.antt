@@ -44,7 +44,7 @@ use Rattle.rex_world.proofs.Stepping.{front_known, runs_after}
 module _ (past : List Value) where
   said_at : (bytes : List (List ℕ)) (k : ℕ) {b : List ℕ} → slice_get bytes k ≡ Some b → slice_get (messages_of past bytes) k ≡ Some (message_of past b)
   said_at [] k e = absurd (cc)
-  said_at (x ∷ xs) zero {b} e = let s : x ≡ b = cc in ap (λ (y : List ℕ). let o : Option (Message Value) = Some (message_of past y) in o) s
+  said_at (x ∷ xs) zero {b} e = let s : x ≡ b = cc in ap (λ y. let o : Option (Message Value) = Some (message_of past y) in o) s
   said_at (x ∷ xs) (suc k) {b} e = said_at xs k e
 
   none_at : (bytes : List (List ℕ)) (k : ℕ) → slice_get bytes k ≡ None → slice_get (messages_of past bytes) k ≡ None
@@ -57,7 +57,7 @@ module _ (past : List Value) where
   sent_at zero h = let e = h.is in absurd (cc)
   sent_at {bytes} (suc k) {m} h =
       said_at bytes k h.is
-      ∙ ap (λ (x : Message Value). let o : Option (Message Value) = Some x in o) (ap (read_message past) (message_read m h.spelling))
+      ∙ ap (λ x. let o : Option (Message Value) = Some x in o) (ap (read_message past) (message_read m h.spelling))
 
   pub missed_at : (bytes : List (List ℕ)) (number : ℕ) → net.message_at bytes number ≡ None → message_at (messages_of past bytes) number ≡ None
   missed_at bytes zero e = refl
@@ -80,11 +80,11 @@ sent_within {bytes} (suc k) {m} h = let l = slice_get_within bytes k (spelling_o
 all_still : (hs : List Bool) (f i : ℕ) → list_all (λ (b : Bool). b) (take f hs) ≡ true → list_all (λ (b : Bool). b) (take f (slice_set hs i true)) ≡ true
 all_still hs zero i h = refl
 all_still [] (suc f) i h = refl
-all_still (b ∷ hs) (suc f) zero h = (and_parts b (list_all (λ (c : Bool). c) (take f hs)) h).1
+all_still (b ∷ hs) (suc f) zero h = (and_parts b (list_all (λ c. c) (take f hs)) h).1
 all_still (b ∷ hs) (suc f) (suc i) h =
-    let p = and_parts b (list_all (λ (c : Bool). c) (take f hs)) h in
+    let p = and_parts b (list_all (λ c. c) (take f hs)) h in
     let rest = all_still hs f i p.1 in
-    ap (λ (t : Bool). t && list_all (λ (c : Bool). c) (take f (slice_set hs i true))) p.0 ∙ rest
+    ap (λ t. t && list_all (λ c. c) (take f (slice_set hs i true))) p.0 ∙ rest
 
 module _ {S : Type 0} (service : Declarations) {w w1 : World S} {number : ℕ} (marked : IsMarked number w w1) where
   -- flags don't matter for what is kept
@@ -109,7 +109,7 @@ module _ {S : Type 0} (service : Declarations) {w w1 : World S} {number : ℕ} (
         spelled = h.spelled;
         requests = h.requests;
         flushed = omega (arith, ap length marked.handed, length-set w.handed.items (number - 1) true, h.flushed);
-        handed = subst (λ (hs : List Bool). list_all (λ (b : Bool). b) (take w.flushed hs) ≡ true) (sym marked.handed) (all_still _ w.flushed _ h.handed);
+        handed = subst (λ hs. list_all (λ b. b) (take w.flushed hs) ≡ true) (sym marked.handed) (all_still _ w.flushed _ h.handed);
         clients = h.clients;
       })
 
@@ -151,7 +151,7 @@ module _ {S : Type 0} (service : Declarations) (w : World S) (h : IsRunning serv
     marked_row : hand_row w1 ≡ at_node (with_handed (world_of service w) number) m.to (receive (nodes_of w) (service_of service w.seed) m.to m.from (content_in w.agreed m.content))
     marked_row =
         ap hand_row marked.rest
-        ∙ ap (λ (hs : List Bool). at_node (record (world_of service w) { handed = hs }) m.to (receive (nodes_of w) (service_of service w.seed) m.to m.from (content_in w.agreed m.content))) marked.handed
+        ∙ ap (λ hs. at_node (record (world_of service w) { handed = hs }) m.to (receive (nodes_of w) (service_of service w.seed) m.to m.from (content_in w.agreed m.content))) marked.handed
 
     line_row : step_in service w (line.Deliver number) ≡ first_told delivered (hand_row w1)
     unfolding delivered
@@ -167,18 +167,18 @@ module _ {S : Type 0} (service : Declarations) (w : World S) (h : IsRunning serv
         (record {
           did = record {
             world = c.did.world;
-            effects = c.did.effects ∙ ap (λ (es : List Effect). es ++ (hand_row w1).effects) effects ∙ append_assoc told.effects.items (delivered ∷ []) (hand_row w1).effects;
-            sent = c.did.sent ∙ ap (λ (es : List Effect). es ++ sent_from (suc (length (messages_of w1.agreed w1.net))) (drop (length (messages_of w1.agreed w1.net)) (hand_row w1).world.messages)) sent-same
-                ∙ ap (λ (v : World S). told.sent.items ++ sent_from (suc (length (messages_of v.agreed v.net))) (drop (length (messages_of v.agreed v.net)) (hand_row w1).world.messages)) marked.rest;
+            effects = c.did.effects ∙ ap (λ es. es ++ (hand_row w1).effects) effects ∙ append_assoc told.effects.items (delivered ∷ []) (hand_row w1).effects;
+            sent = c.did.sent ∙ ap (λ es. es ++ sent_from (suc (length (messages_of w1.agreed w1.net))) (drop (length (messages_of w1.agreed w1.net)) (hand_row w1).world.messages)) sent-same
+                ∙ ap (λ v. told.sent.items ++ sent_from (suc (length (messages_of v.agreed v.net))) (drop (length (messages_of v.agreed v.net)) (hand_row w1).world.messages)) marked.rest;
           };
           running = c.running;
           same = record {
             nodes = c.same.nodes ∙ ap nodes_of marked.rest;
-            requests = c.same.requests ∙ ap (λ (v : World S). v.requests) marked.rest;
-            seed = c.same.seed ∙ ap (λ (v : World S). v.seed) marked.rest;
+            requests = c.same.requests ∙ ap (λ v. v.requests) marked.rest;
+            seed = c.same.seed ∙ ap (λ v. v.seed) marked.rest;
           };
-          done = c.done ∙ ap (λ (v : World S). v.done) marked.rest;
-          flushed = c.flushed ∙ ap (λ (v : World S). v.flushed) marked.rest;
+          done = c.done ∙ ap (λ v. v.done) marked.rest;
+          flushed = c.flushed ∙ ap (λ v. v.flushed) marked.rest;
         })
 
 -- where there is no message of the number
@@ -191,7 +191,7 @@ missed {service} {w} {told} {told2} number h none effects sent =
       did = record {
         world = refl;
         effects = effects;
-        sent = sent ∙ sym (append-nil told.sent.items) ∙ ap (λ (ms : List (Message Value)). told.sent.items ++ sent_from (suc (length (messages_of w.agreed w.net))) ms) (sym (drop-length (messages_of w.agreed w.net)));
+        sent = sent ∙ sym (append-nil told.sent.items) ∙ ap (λ ms. told.sent.items ++ sent_from (suc (length (messages_of w.agreed w.net))) ms) (sym (drop-length (messages_of w.agreed w.net)));
       };
       running = h;
       same = record { nodes = refl; requests = refl; seed = refl };
@@ -201,7 +201,7 @@ missed {service} {w} {told} {told2} number h none effects sent =
 
 -- the message stays under its number
 pub sent_on : {S : Type 0} → {number : ℕ} {w w1 : World S} {m : Said} → IsMarked number w w1 → IsSent w.net number m → IsSent w1.net number m
-sent_on {number} {m} marked sent = subst (λ (v : World _). IsSent v.net number m) (sym marked.rest) sent
+sent_on {number} {m} marked sent = subst (λ v. IsSent v.net number m) (sym marked.rest) sent
 
 -- it is known of each message whether it was handed over
 pub sent_handed : {S : Type 0} → {service : Declarations} {w : World S} → IsRunning service w → {number : ℕ} → number ≤ length w.net → number ≤ length w.handed.items

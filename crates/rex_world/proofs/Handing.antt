@@ -33,12 +33,12 @@ sent_since before after = sent_from (suc (length before)) (drop (length before) 
 sent_two : (ms s t : List (Message Value)) → sent_since ms ((ms ++ s) ++ t) ≡ sent_since ms (ms ++ s) ++ sent_since (ms ++ s) ((ms ++ s) ++ t)
 sent_two ms s t =
     let n : suc (length ms) + length s ≡ suc (length (ms ++ s)) = omega (arith, length-append ms s) in
-    ap (λ (xs : List (Message Value)). sent_since ms xs) (append_assoc ms s t)
-    ∙ ap (λ (xs : List (Message Value)). sent_from (suc (length ms)) xs) (drop-append_seam ms (s ++ t))
+    ap (λ xs. sent_since ms xs) (append_assoc ms s t)
+    ∙ ap (λ xs. sent_from (suc (length ms)) xs) (drop-append_seam ms (s ++ t))
     ∙ sent_both _ s t
-    ∙ ap (λ (k : ℕ). sent_from (suc (length ms)) s ++ sent_from k t) n
-    ∙ ap (λ (xs : List (Message Value)). sent_from (suc (length ms)) xs ++ sent_from (suc (length (ms ++ s))) t) (sym (drop-append_seam ms s))
-    ∙ ap (λ (xs : List (Message Value)). sent_since ms (ms ++ s) ++ sent_from (suc (length (ms ++ s))) xs) (sym (drop-append_seam (ms ++ s) t))
+    ∙ ap (λ k. sent_from (suc (length ms)) s ++ sent_from k t) n
+    ∙ ap (λ xs. sent_from (suc (length ms)) xs ++ sent_from (suc (length (ms ++ s))) t) (sym (drop-append_seam ms s))
+    ∙ ap (λ xs. sent_since ms (ms ++ s) ++ sent_from (suc (length (ms ++ s))) xs) (sym (drop-append_seam (ms ++ s) t))
 
 -- messages were sent behind those before
 pub record Grows (before after : List (Message Value)) : Type 0 where
@@ -47,23 +47,23 @@ pub record Grows (before after : List (Message Value)) : Type 0 where
 
 sent_parts : {a b c : List (Message Value)} → Grows a b → Grows b c → sent_since a c ≡ sent_since a b ++ sent_since b c
 sent_parts {a} {b} g h =
-    subst (λ (z : List (Message Value)). sent_since a z ≡ sent_since a b ++ sent_since b z) (sym h.is)
-    (subst (λ (y : List (Message Value)). sent_since a (y ++ h.more) ≡ sent_since a y ++ sent_since y (y ++ h.more)) (sym g.is) (sent_two a g.more h.more))
+    subst (λ z. sent_since a z ≡ sent_since a b ++ sent_since b z) (sym h.is)
+    (subst (λ y. sent_since a (y ++ h.more) ≡ sent_since a y ++ sent_since y (y ++ h.more)) (sym g.is) (sent_two a g.more h.more))
 
 grows_both : {a b c : List (Message Value)} → Grows a b → Grows b c → Grows a c
-grows_both {a} g h = record { more = g.more ++ h.more; is = h.is ∙ ap (λ (xs : List (Message Value)). xs ++ h.more) g.is ∙ append_assoc a g.more h.more }
+grows_both {a} g h = record { more = g.more ++ h.more; is = h.is ∙ ap (λ xs. xs ++ h.more) g.is ∙ append_assoc a g.more h.more }
 
 -- ---- which messages wait
 
 waiting_more : (k : ℕ) (xs : List Bool) (b : Bool) → waiting_from k (xs ++ b ∷ []) ≡ waiting_from k xs ++ (if b then [] else (k + length xs) ∷ [])
 waiting_more k [] true = refl
-waiting_more k [] false = ap (λ (m : ℕ). m ∷ []) (sym (add-zero k))
+waiting_more k [] false = ap (λ m. m ∷ []) (sym (add-zero k))
 waiting_more k (true ∷ xs) b =
     let e : suc k + length xs ≡ k + suc (length xs) = omega arith in
-    waiting_more (suc k) xs b ∙ ap (λ (m : ℕ). waiting_from (suc k) xs ++ (if b then [] else m ∷ [])) e
+    waiting_more (suc k) xs b ∙ ap (λ m. waiting_from (suc k) xs ++ (if b then [] else m ∷ [])) e
 waiting_more k (false ∷ xs) b =
     let e : suc k + length xs ≡ k + suc (length xs) = omega arith in
-    ap (λ (ns : List ℕ). k ∷ ns) (waiting_more (suc k) xs b ∙ ap (λ (m : ℕ). waiting_from (suc k) xs ++ (if b then [] else m ∷ [])) e)
+    ap (λ ns. k ∷ ns) (waiting_more (suc k) xs b ∙ ap (λ m. waiting_from (suc k) xs ++ (if b then [] else m ∷ [])) e)
 
 -- none of those that were handed over
 none_wait : (k : ℕ) (xs : List Bool) → list_all (λ (b : Bool). b) xs ≡ true → waiting_from k xs ≡ []
@@ -73,7 +73,7 @@ none_wait k (false ∷ xs) h = absurd (cc)
 
 all_are : (xs : List Bool) → list_all (λ (b : Bool). b) xs ≡ true → xs ≡ replicate (length xs) true
 all_are [] h = refl
-all_are (true ∷ xs) h = ap (λ (ys : List Bool). true ∷ ys) (all_are xs h)
+all_are (true ∷ xs) h = ap (λ ys. true ∷ ys) (all_are xs h)
 all_are (false ∷ xs) h = absurd (cc)
 
 are_all : (k : ℕ) → list_all (λ (b : Bool). b) (replicate k true) ≡ true
@@ -82,7 +82,7 @@ are_all (suc k) = are_all k
 
 steps_more : (place : ℕ) (b : Bool) (k : ℕ) → k ≡ place + 1 → map Deliver (if b then [] else k ∷ []) ≡ step_at place b
 steps_more place true k e = refl
-steps_more place false k e = ap (λ (m : ℕ). Deliver m ∷ []) e
+steps_more place false k e = ap (λ m. Deliver m ∷ []) e
 
 some_more : (ns : List ℕ) (b : Bool) (k : ℕ) → is_some_there (ns ++ (if b then [] else k ∷ [])) ≡ (if b then is_some_there ns else true)
 some_more [] true k = refl
@@ -99,34 +99,34 @@ pub record IsFront (place : ℕ) (before after : List Bool) : Type 0 where
 
 module _ {place : ℕ} {before after : List Bool} (inside : place < length before) (f : IsFront place before after) where
   front_at : after ≡ replicate place true ++ (get_or before place true ∷ (drop (suc place) before ++ f.more))
-  front_at = f.is ∙ ap (λ (xs : List Bool). replicate place true ++ (xs ++ f.more)) (drop-cons before place true inside)
+  front_at = f.is ∙ ap (λ xs. replicate place true ++ (xs ++ f.more)) (drop-cons before place true inside)
 
   same_at : get_or after place true ≡ get_or before place true
   same_at =
-      ap (λ (xs : List Bool). get_or xs place true) front_at
-      ∙ subst (λ (k : ℕ). get_or (replicate place true ++ (get_or before place true ∷ (drop (suc place) before ++ f.more))) k true ≡ get_or before place true) (length-replicate place true)
+      ap (λ xs. get_or xs place true) front_at
+      ∙ subst (λ k. get_or (replicate place true ++ (get_or before place true ∷ (drop (suc place) before ++ f.more))) k true ≡ get_or before place true) (length-replicate place true)
       (get_or-append_seam (replicate place true) (get_or before place true) (drop (suc place) before ++ f.more) true)
 
   next_front : (more : List Bool) → replicate place true ++ (true ∷ (drop (suc place) before ++ more)) ≡ replicate (place + 1) true ++ (drop (place + 1) before ++ more)
   next_front more =
       sym (append_assoc (replicate place true) (true ∷ []) (drop (suc place) before ++ more))
-      ∙ ap (λ (xs : List Bool). xs ++ (drop (suc place) before ++ more)) (sym (replicate_next place true))
-      ∙ ap (λ (k : ℕ). replicate (place + 1) true ++ (drop k before ++ more)) (sym (add-one place))
+      ∙ ap (λ xs. xs ++ (drop (suc place) before ++ more)) (sym (replicate_next place true))
+      ∙ ap (λ k. replicate (place + 1) true ++ (drop k before ++ more)) (sym (add-one place))
 
   -- it had been handed over
   front_true : get_or before place true ≡ true → IsFront (place + 1) before after
-  front_true e = record { more = f.more; is = front_at ∙ ap (λ (b : Bool). replicate place true ++ (b ∷ (drop (suc place) before ++ f.more))) e ∙ next_front f.more }
+  front_true e = record { more = f.more; is = front_at ∙ ap (λ b. replicate place true ++ (b ∷ (drop (suc place) before ++ f.more))) e ∙ next_front f.more }
 
   -- it is handed over, and others are sent
   front_set : {later : List Bool} (more : List Bool) → later ≡ slice_set after place true ++ more → IsFront (place + 1) before later
   front_set more e = record {
     more = f.more ++ more;
-    is = e ∙ ap (λ (xs : List Bool). slice_set xs place true ++ more) front_at
-        ∙ ap (λ (xs : List Bool). xs ++ more)
-        (subst (λ (k : ℕ). slice_set (replicate place true ++ (get_or before place true ∷ (drop (suc place) before ++ f.more))) k true ≡ replicate place true ++ (true ∷ (drop (suc place) before ++ f.more))) (length-replicate place true)
+    is = e ∙ ap (λ xs. slice_set xs place true ++ more) front_at
+        ∙ ap (λ xs. xs ++ more)
+        (subst (λ k. slice_set (replicate place true ++ (get_or before place true ∷ (drop (suc place) before ++ f.more))) k true ≡ replicate place true ++ (true ∷ (drop (suc place) before ++ f.more))) (length-replicate place true)
         (set-append_seam (replicate place true) (get_or before place true) (drop (suc place) before ++ f.more) true))
         ∙ append_assoc (replicate place true) (true ∷ (drop (suc place) before ++ f.more)) more
-        ∙ ap (λ (xs : List Bool). replicate place true ++ (true ∷ xs)) (append_assoc (drop (suc place) before) f.more more)
+        ∙ ap (λ xs. replicate place true ++ (true ∷ xs)) (append_assoc (drop (suc place) before) f.more more)
         ∙ next_front _;
   }
 
@@ -147,8 +147,8 @@ module _ (service : Declarations) (requests : List Request) (seed n : ℕ) where
   deliver_leaves w {place} l =
       let x : Message Value = get_or w.messages place (record { from = 0; to = 0; content = Ask 0 }) in
       let e : suc place - 1 ≡ place = omega arith in
-      subst (λ (k : ℕ). Leaves (slice_set w.handed k true) w.messages (step service requests seed n w (Deliver (suc place))).world) e
-      (subst (λ (o : Option (Message Value)). Leaves (slice_set w.handed (suc place - 1) true) w.messages (deliver_found service seed n w (suc place) o).world)
+      subst (λ k. Leaves (slice_set w.handed k true) w.messages (step service requests seed n w (Deliver (suc place))).world) e
+      (subst (λ o. Leaves (slice_set w.handed (suc place - 1) true) w.messages (deliver_found service seed n w (suc place) o).world)
       (sym (slice_get-get_or w.messages place (record { from = 0; to = 0; content = Ask 0 }) l))
       (up_leaves (node_at w.nodes x.to).up (with_handed w (suc place)) x.to _))
 
@@ -163,28 +163,28 @@ module _ (service : Declarations) (requests : List Request) (seed n : ℕ) where
   steps_effects w [] ys = refl
   steps_effects w (x ∷ xs) ys =
       let v : ModelWorld = (step service requests seed n w x).world in
-      ap (λ (es : List Effect). (step service requests seed n w x).effects ++ es) (steps_effects v xs ys)
+      ap (λ es. (step service requests seed n w x).effects ++ es) (steps_effects v xs ys)
       ∙ sym (append_assoc (step service requests seed n w x).effects (steps service requests seed n v xs).effects (steps service requests seed n (steps service requests seed n v xs).world ys).effects)
 
   told_sent : {w v : ModelWorld} {a b : Told} {r : Row} → Did w v a b r → b.sent.items ≡ a.sent.items ++ sent_since w.messages v.messages
-  told_sent {w} {a} d = d.sent ∙ ap (λ (z : ModelWorld). a.sent.items ++ sent_since w.messages z.messages) (sym d.world)
+  told_sent {w} {a} d = d.sent ∙ ap (λ z. a.sent.items ++ sent_since w.messages z.messages) (sym d.world)
 
   did_both : {w v u : ModelWorld} {a b c : Told} (xs ys : List ScheduleLine) → DidSteps service requests seed n w v a b xs → DidSteps service requests seed n v u b c ys
       → Grows w.messages v.messages → Grows v.messages u.messages → DidSteps service requests seed n w u a c (xs ++ ys)
   did_both {w} {v} {u} {a} {b} {c} xs ys d e g h =
       let world : u ≡ (steps service requests seed n w (xs ++ ys)).world =
-      e.world ∙ ap (λ (z : ModelWorld). (steps service requests seed n z ys).world) d.world ∙ sym (steps_world w xs ys) in
+      e.world ∙ ap (λ z. (steps service requests seed n z ys).world) d.world ∙ sym (steps_world w xs ys) in
       record {
         world = world;
-        effects = e.effects ∙ ap (λ (es : List Effect). es ++ (steps service requests seed n v ys).effects) d.effects
-            ∙ ap (λ (z : ModelWorld). (a.effects.items ++ (steps service requests seed n w xs).effects) ++ (steps service requests seed n z ys).effects) d.world
+        effects = e.effects ∙ ap (λ es. es ++ (steps service requests seed n v ys).effects) d.effects
+            ∙ ap (λ z. (a.effects.items ++ (steps service requests seed n w xs).effects) ++ (steps service requests seed n z ys).effects) d.world
             ∙ append_assoc a.effects.items (steps service requests seed n w xs).effects (steps service requests seed n (steps service requests seed n w xs).world ys).effects
-            ∙ ap (λ (es : List Effect). a.effects.items ++ es) (sym (steps_effects w xs ys));
+            ∙ ap (λ es. a.effects.items ++ es) (sym (steps_effects w xs ys));
         sent = told_sent e
-            ∙ ap (λ (es : List Effect). es ++ sent_since v.messages u.messages) (told_sent d)
+            ∙ ap (λ es. es ++ sent_since v.messages u.messages) (told_sent d)
             ∙ append_assoc a.sent.items (sent_since w.messages v.messages) (sent_since v.messages u.messages)
-            ∙ ap (λ (es : List Effect). a.sent.items ++ es) (sym (sent_parts g h))
-            ∙ ap (λ (z : ModelWorld). a.sent.items ++ sent_since w.messages z.messages) world;
+            ∙ ap (λ es. a.sent.items ++ es) (sym (sent_parts g h))
+            ∙ ap (λ z. a.sent.items ++ sent_since w.messages z.messages) world;
       }
 
   -- ---- the messages up to a place
@@ -200,17 +200,17 @@ module _ (service : Declarations) (requests : List Request) (seed n : ℕ) where
   pub handed_first : {w : ModelWorld} {a : Told} {place : ℕ} → place ≤ length w.handed → list_all (λ (b : Bool). b) (take place w.handed) ≡ true → HasHanded w w a a place false
   handed_first {w} {a} {place} l h =
       let none : waiting_from 1 (take place w.handed) ≡ [] = none_wait 1 (take place w.handed) h in
-      let front : take place w.handed ≡ replicate place true = all_are _ h ∙ ap (λ (k : ℕ). replicate k true) (length-take-le place w.handed l) in
+      let front : take place w.handed ≡ replicate place true = all_are _ h ∙ ap (λ k. replicate k true) (length-take-le place w.handed l) in
       record {
-        did = subst (λ (ns : List ℕ). DidSteps service requests seed n w w a a (map Deliver ns)) (sym none) (record {
+        did = subst (λ ns. DidSteps service requests seed n w w a a (map Deliver ns)) (sym none) (record {
           world = refl;
           effects = sym (append-nil a.effects.items);
-          sent = sym (append-nil a.sent.items) ∙ ap (λ (xs : List (Message Value)). a.sent.items ++ sent_from (suc (length w.messages)) xs) (sym (drop-length w.messages));
+          sent = sym (append-nil a.sent.items) ∙ ap (λ xs. a.sent.items ++ sent_from (suc (length w.messages)) xs) (sym (drop-length w.messages));
         });
         grows = record { more = []; is = sym (append-nil w.messages) };
         front = record {
           more = [];
-          is = sym (take-append-drop place w.handed) ∙ ap (λ (xs : List Bool). xs ++ drop place w.handed) front ∙ ap (λ (xs : List Bool). replicate place true ++ xs) (sym (append-nil (drop place w.handed)));
+          is = sym (take-append-drop place w.handed) ∙ ap (λ xs. xs ++ drop place w.handed) front ∙ ap (λ xs. replicate place true ++ xs) (sym (append-nil (drop place w.handed)));
         };
         waits-is = ap is_some_there (sym none);
       }
@@ -223,13 +223,13 @@ module _ (service : Declarations) (requests : List Request) (seed n : ℕ) where
   stepped : {w v u : ModelWorld} {place : ℕ} (b : Bool) → place < length w.handed → length v.handed ≡ length v.messages → IsFront place w.handed v.handed → get_or w.handed place true ≡ b
       → u ≡ (steps service requests seed n v (step_at place b)).world → HasStepped w v u place
   stepped {w} {v} {place} true l even f e is =
-      subst (λ (z : ModelWorld). HasStepped w v z place) (sym is)
+      subst (λ z. HasStepped w v z place) (sym is)
       (record { grows = record { more = []; is = sym (append-nil v.messages) }; front = front_true l f e })
   stepped {w} {v} {place} false l even f e is =
       let inside : place < length v.messages =
       omega (arith, even, ap length f.is, length-append (replicate place true) (drop place w.handed ++ f.more), length-replicate place true, length-append (drop place w.handed) f.more, length-drop place w.handed, l) in
       let d = deliver_leaves v inside in
-      subst (λ (z : ModelWorld). HasStepped w v z place) (sym (is ∙ ap (λ (k : ℕ). (step service requests seed n v (Deliver k)).world) (add-one place)))
+      subst (λ z. HasStepped w v z place) (sym (is ∙ ap (λ k. (step service requests seed n v (Deliver k)).world) (add-one place)))
       (record { grows = d.grows; front = front_set l f d.more d.handed-is })
 
   pub handed_next : {w v u : ModelWorld} {a b c : Told} {place : ℕ} {waited waits : Bool} → place < length w.handed → length v.handed ≡ length v.messages
@@ -237,40 +237,40 @@ module _ (service : Declarations) (requests : List Request) (seed n : ℕ) where
   handed_next {w} {v} {u} {a} {b} {c} {place} {waited} l even h over =
       let at : Bool = get_or w.handed place true in
       let same : get_or v.handed place true ≡ at = same_at l h.front in
-      let did : DidSteps service requests seed n v u b c (step_at place at) = subst (λ (z : Bool). DidSteps service requests seed n v u b c (step_at place z)) same over.did in
+      let did : DidSteps service requests seed n v u b c (step_at place at) = subst (λ z. DidSteps service requests seed n v u b c (step_at place z)) same over.did in
       let s : HasStepped w v u place = stepped at l even h.front refl did.world in
       let k : 1 + length (take place w.handed) ≡ place + 1 = omega (arith, length-take-le place w.handed, l) in
       let next : waiting_from 1 (take (place + 1) w.handed) ≡ waiting_from 1 (take place w.handed) ++ (if at then [] else (1 + length (take place w.handed)) ∷ []) =
-      ap (λ (j : ℕ). waiting_from 1 (take j w.handed)) (add-one place) ∙ ap (λ (xs : List Bool). waiting_from 1 xs) (take-suc w.handed place true l) ∙ waiting_more 1 (take place w.handed) at in
+      ap (λ j. waiting_from 1 (take j w.handed)) (add-one place) ∙ ap (λ xs. waiting_from 1 xs) (take-suc w.handed place true l) ∙ waiting_more 1 (take place w.handed) at in
       record {
-        did = subst (λ (xs : List ScheduleLine). DidSteps service requests seed n w u a c xs)
-            (ap (λ (xs : List ScheduleLine). map Deliver (waiting_from 1 (take place w.handed)) ++ xs) (sym (steps_more place at (1 + length (take place w.handed)) k))
+        did = subst (λ xs. DidSteps service requests seed n w u a c xs)
+            (ap (λ xs. map Deliver (waiting_from 1 (take place w.handed)) ++ xs) (sym (steps_more place at (1 + length (take place w.handed)) k))
             ∙ sym (map-append Deliver (waiting_from 1 (take place w.handed)) (if at then [] else (1 + length (take place w.handed)) ∷ []))
-            ∙ ap (λ (ns : List ℕ). map Deliver ns) (sym next))
+            ∙ ap (λ ns. map Deliver ns) (sym next))
             (did_both (map Deliver (waiting_from 1 (take place w.handed))) (step_at place at) h.did did h.grows s.grows);
         grows = grows_both h.grows s.grows;
         front = s.front;
-        waits-is = over.waits-is ∙ ap (λ (z : Bool). if z then waited else true) same ∙ ap (λ (z : Bool). if at then z else true) h.waits-is
+        waits-is = over.waits-is ∙ ap (λ z. if z then waited else true) same ∙ ap (λ z. if at then z else true) h.waits-is
             ∙ sym (some_more _ at (1 + length (take place w.handed))) ∙ ap is_some_there (sym next);
       }
 
   pub flushed_all : {w v : ModelWorld} {a b : Told} {place : ℕ} {waits : Bool} → HasHanded w v a b place waits → (place ≤ length v.handed) × (list_all (λ (b : Bool). b) (take place v.handed) ≡ true)
   flushed_all {w} {v} {b} {place} h =
       let long : length v.handed ≡ place + length (drop place w.handed ++ h.front.more) =
-      ap length h.front.is ∙ length-append (replicate place true) (drop place w.handed ++ h.front.more) ∙ ap (λ (k : ℕ). k + length (drop place w.handed ++ h.front.more)) (length-replicate place true) in
+      ap length h.front.is ∙ length-append (replicate place true) (drop place w.handed ++ h.front.more) ∙ ap (λ k. k + length (drop place w.handed ++ h.front.more)) (length-replicate place true) in
       let front : take place v.handed ≡ replicate place true =
-      ap (λ (xs : List Bool). take place xs) h.front.is
-      ∙ subst (λ (k : ℕ). take k (replicate place true ++ (drop place w.handed ++ h.front.more)) ≡ replicate place true) (length-replicate place true) (take-append_seam (replicate place true) (drop place w.handed ++ h.front.more)) in
-      (omega arith, ap (λ (xs : List Bool). list_all (λ (b : Bool). b) xs) front ∙ are_all place)
+      ap (λ xs. take place xs) h.front.is
+      ∙ subst (λ k. take k (replicate place true ++ (drop place w.handed ++ h.front.more)) ≡ replicate place true) (length-replicate place true) (take-append_seam (replicate place true) (drop place w.handed ++ h.front.more)) in
+      (omega arith, ap (λ xs. list_all (λ b. b) xs) front ∙ are_all place)
 
 -- ---- the same requests, seed and nodes
 
 pub over_as : {S : Type 0} → {service : Declarations} {before after : World S} {v u : ModelWorld} {b c : Told} {place : ℕ} {waited waits : Bool} → IsSame before after
     → HandsOver service after.requests after.seed (nodes_of after) v u b c place waited waits → HandsOver service before.requests before.seed (nodes_of before) v u b c place waited waits
 over_as {service} {before} {after} {v} {u} {b} {c} {place} {waited} {waits} same h =
-    subst (λ (k : ℕ). HandsOver service before.requests before.seed k v u b c place waited waits) same.nodes
-    (subst (λ (s : ℕ). HandsOver service before.requests s (nodes_of after) v u b c place waited waits) same.seed
-    (subst (λ (rs : List Request). HandsOver service rs after.seed (nodes_of after) v u b c place waited waits) same.requests h))
+    subst (λ k. HandsOver service before.requests before.seed k v u b c place waited waits) same.nodes
+    (subst (λ s. HandsOver service before.requests s (nodes_of after) v u b c place waited waits) same.seed
+    (subst (λ rs. HandsOver service rs after.seed (nodes_of after) v u b c place waited waits) same.requests h))
 
 pub same_both : {S : Type 0} → {a b c : World S} → IsSame a b → IsSame b c → IsSame a c
 same_both s t = record { nodes = t.nodes ∙ s.nodes; requests = t.requests ∙ s.requests; seed = t.seed ∙ s.seed }

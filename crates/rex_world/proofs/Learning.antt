@@ -39,7 +39,7 @@ allowed_ok : (w : Width) (may : ℕ → Bool) (l : Left) {x : ℕ × Left} → a
 allowed_ok w may l {x} e =
     let b = bind_ok (number_at w l) (λ n. if may n.0 then Ok n else Err l.at) x e in
     let t = test_ok (may b.0.0) l.at b.0 x b.2 in
-    record { number = subst (IsNumber w l) t.1 (number_ok b.1); may_be = subst (λ (y : ℕ × Left). may y.0 ≡ true) t.1 t.0 }
+    record { number = subst (IsNumber w l) t.1 (number_ok b.1); may_be = subst (λ y. may y.0 ≡ true) t.1 t.0 }
 
 -- a value that was read, with what is left after it, is what stands behind its length
 pub record IsValueAt (l : Left) (x : List ℕ × Left) : Type 0 where
@@ -54,7 +54,7 @@ value_ok {l} {x} e =
     let g = guard_ok (nat_lt (length b.0.1.rest) b.0.0) b.0.1.at (take b.0.0 b.0.1.rest, past b.0.0 b.0.1) x b.2 in
     record {
       long = a.number.long;
-      parts = ap (λ (y : List ℕ × Left). y.0 ++ y.1.rest) (sym g.1) ∙ take-append-drop b.0.0 b.0.1.rest ∙ ap (λ (y : ℕ × Left). y.1.rest) a.number.is;
+      parts = ap (λ y. y.0 ++ y.1.rest) (sym g.1) ∙ take-append-drop b.0.0 b.0.1.rest ∙ ap (λ y. y.1.rest) a.number.is;
     }
 
 -- ---- a record
@@ -79,16 +79,16 @@ known_ok {s} {l} {x} e =
     let a = allowed_ok w32 (λ n. is_instance n && n == s.count + 1) l b.1 in
     let c = bind_ok (value_at b.0.1) (λ value. Ok (rec.Known b.0.0 value.0, value.1)) x b.2 in
     let v = value_ok c.1 in
-    let rest : b.0.1.rest ≡ drop 4 l.rest = ap (λ (y : ℕ × Left). y.1.rest) a.number.is in
+    let rest : b.0.1.rest ≡ drop 4 l.rest = ap (λ y. y.1.rest) a.number.is in
     let made : (rec.Known b.0.0 c.0.0, c.0.1) ≡ x = same_pair (rec.Known b.0.0 c.0.0, c.0.1) x c.2 in
     record {
       instance = b.0.0;
       value = c.0.0;
-      is = ap (λ (y : KeptRec × Left). y.0) (sym made);
+      is = ap (λ y. y.0) (sym made);
       due = (next-true s.count b.0.0 a.may_be).next;
       long = let n = length_drop l.rest a.number.long in omega (arith, n, v.long, ap length rest, a.number.long);
-      instance_is = ap (λ (y : ℕ × Left). y.0) (sym a.number.is);
-      parts = ap (λ (y : KeptRec × Left). c.0.0 ++ y.1.rest) (sym made) ∙ v.parts ∙ ap (drop 4) rest;
+      instance_is = ap (λ y. y.0) (sym a.number.is);
+      parts = ap (λ y. c.0.0 ++ y.1.rest) (sym made) ∙ v.parts ∙ ap (drop 4) rest;
     }
   where
     same_pair : (y z : KeptRec × Left) → ◌≡◌ {A = Reading KeptRec} (Ok y) (Ok z) → y ≡ z
@@ -103,7 +103,7 @@ abbrev read_of : KeptRec × Left → Reading KeptRec
 read_of x = Ok x
 
 made_other : {y x : KeptRec × Left} → read_of y ≡ read_of x → is_known y.0 ≡ false → is_known x.0 ≡ false
-made_other {y} {x} e h = subst (λ (z : KeptRec × Left). is_known z.0 ≡ false) (let same : y ≡ x = cc in same) h
+made_other {y} {x} e h = subst (λ z. is_known z.0 ≡ false) (let same : y ≡ x = cc in same) h
 
 promised_other : (l : Left) {x : KeptRec × Left} → promised_at l ≡ Ok x → is_known x.0 ≡ false
 unfolding promised_at
@@ -149,7 +149,7 @@ record IsThree (s : Standing) (code : ℕ) (l : Left) (x : KeptRec × Left) : Ty
   at : IsKnownAt s l x
 
 not_three : (code k : ℕ) → (code == k) ≡ true → (k == 3) ≡ false → (code == 3) ≡ false
-not_three code k e f = ap (λ (n : ℕ). n == 3) (eqb-true code k e) ∙ f
+not_three code k e f = ap (λ n. n == 3) (eqb-true code k e) ∙ f
 
 content_ok : {s : Standing} (at code : ℕ) (l : Left) (x : KeptRec × Left) → content_at s at code l ≡ Ok x → IsThree s code l x ⊎ IsOther code x
 content_ok {s} at code l x e = one (code == 1) refl e
@@ -218,21 +218,21 @@ module _ (s : Standing) (bytes : List ℕ) where
       k = h.at
 
       rest : code.1.rest ≡ drop 1 bytes
-      rest = ap (λ (y : ℕ × Left). y.1.rest) number.is
+      rest = ap (λ y. y.1.rest) number.is
 
       long : 9 ≤ length bytes
       long = let n = length_drop bytes number.long in let l = k.long in omega (arith, n, l, ap length rest)
 
       kind : (get_or bytes 0 0 == 3) ≡ true
-      kind = ap (λ (n : ℕ). n == 3) (sym (first_byte bytes number.long) ∙ ap (λ (y : ℕ × Left). y.0) (sym number.is)) ∙ h.code_is
+      kind = ap (λ n. n == 3) (sym (first_byte bytes number.long) ∙ ap (λ y. y.0) (sym number.is)) ∙ h.code_is
 
       instance_is : instance_in bytes ≡ k.instance
-      instance_is = ap (λ (xs : List ℕ). from_be_bytes w32 (take 4 xs)) (sym rest) ∙ k.instance_is
+      instance_is = ap (λ xs. from_be_bytes w32 (take 4 xs)) (sym rest) ∙ k.instance_is
 
       value_is : value_in bytes ≡ k.value
       value_is =
-          sym (drop-drop 4 5 bytes) ∙ ap (drop 4) (sym (drop-drop 4 1 bytes)) ∙ ap (λ (xs : List ℕ). drop 4 (drop 4 xs)) (sym rest) ∙ sym k.parts
-          ∙ ap (λ (xs : List ℕ). k.value ++ xs) (no_more x.1.rest none) ∙ append-nil k.value
+          sym (drop-drop 4 5 bytes) ∙ ap (drop 4) (sym (drop-drop 4 1 bytes)) ∙ ap (λ xs. drop 4 (drop 4 xs)) (sym rest) ∙ sym k.parts
+          ∙ ap (λ xs. k.value ++ xs) (no_more x.1.rest none) ∙ append-nil k.value
 
       known : SaysKnown s bytes k.instance k.value
       known = record {
@@ -243,8 +243,8 @@ module _ (s : Standing) (bytes : List ℕ) where
 
   other_gives : {code : ℕ × Left} → IsNumber w8 (all_left bytes) code → (code.0 == 3) ≡ false → (count : ℕ) → gives_next count bytes ≡ false
   other_gives number e count =
-      let kind : (get_or bytes 0 0 == 3) ≡ false = ap (λ (n : ℕ). n == 3) (sym (first_byte bytes number.long) ∙ ap (λ (y : ℕ × Left). y.0) (sym number.is)) ∙ e in
-      ap (λ (b : Bool). nat_le 9 (length bytes) && (b && instance_in bytes == count + 1)) kind ∙ nothing (nat_le 9 (length bytes))
+      let kind : (get_or bytes 0 0 == 3) ≡ false = ap (λ n. n == 3) (sym (first_byte bytes number.long) ∙ ap (λ y. y.0) (sym number.is)) ∙ e in
+      ap (λ b. nat_le 9 (length bytes) && (b && instance_in bytes == count + 1)) kind ∙ nothing (nat_le 9 (length bytes))
     where
       nothing : (b : Bool) → (b && false) ≡ false
       nothing true = refl
@@ -262,7 +262,7 @@ module _ (s : Standing) (bytes : List ℕ) where
       by : (code : ℕ × Left) (x : KeptRec × Left) → IsNumber w8 (all_left bytes) code → (length x.1.rest == 0) ≡ true → x.0 ≡ r → IsThree s code.0 code.1 x ⊎ IsOther code.0 x → Says s bytes r
       by code x number none same (inl h) = three_says number none same h
       by code x number none same (inr h) =
-          let not : is_known r ≡ false = subst (λ (q : KeptRec). is_known q ≡ false) same h.known_not in
+          let not : is_known r ≡ false = subst (λ q. is_known q ≡ false) same h.known_not in
           other_says s r not (record { known_not = not; gives = other_gives number h.code_is })
 
 -- ---- the agreed values
@@ -276,12 +276,12 @@ pub learned_as : (s : Standing) (bytes : List ℕ) {r : KeptRec} (values : List 
 learned_as s bytes {r} values e = by r (says s bytes e)
   where
     other : (q : KeptRec) → SaysOther bytes q → learned_in values bytes ≡ values
-    other q h = ap (λ (b : Bool). if b then values ++ value_in bytes ∷ [] else values) (h.gives (length values))
+    other q h = ap (λ b. if b then values ++ value_in bytes ∷ [] else values) (h.gives (length values))
 
     by : (q : KeptRec) → Says s bytes q → learned_in values bytes ≡ learned_of values q
     by (rec.Known i v) h =
-        ap (λ (b : Bool). if b then values ++ value_in bytes ∷ [] else values) (h.gives (length values))
-        ∙ ap (λ (x : Value). if i == length values + 1 then values ++ x ∷ [] else values) h.value
+        ap (λ b. if b then values ++ value_in bytes ∷ [] else values) (h.gives (length values))
+        ∙ ap (λ x. if i == length values + 1 then values ++ x ∷ [] else values) h.value
     by (rec.Promised b) h = other (rec.Promised b) h
     by (rec.Accepted b i v) h = other (rec.Accepted b i v) h
     by (rec.Checkpoint k v) h = other (rec.Checkpoint k v) h
@@ -297,8 +297,8 @@ known_due s bytes {i} {v} e = (says s bytes e).due
 -- one record more was taken in
 pub learned_next : (values : List Value) {now : List Value} (records : List (List ℕ)) {i : ℕ} {bytes : List ℕ} (d : List ℕ) → i < length records → bytes ≡ get_or records i d → now ≡ learned_in values bytes → learned now (drop (i + 1) records) ≡ learned values (drop i records)
 learned_next values records {i} d l is e =
-    ap (λ (vs : List Value). learned vs (drop (i + 1) records)) (e ∙ ap (learned_in values) is)
-    ∙ ap (λ (k : ℕ). learned (learned_in values (get_or records i d)) (drop k records)) (add-one i)
+    ap (λ vs. learned vs (drop (i + 1) records)) (e ∙ ap (learned_in values) is)
+    ∙ ap (λ k. learned (learned_in values (get_or records i d)) (drop k records)) (add-one i)
     ∙ sym (ap (learned values) (drop-cons records i d l))
 
 -- all were taken in

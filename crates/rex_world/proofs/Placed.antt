@@ -45,7 +45,7 @@ module _ (service : Declarations) (past : List Value) where
   put_index : (xs : List Member) (i : ℕ) (y : Member) → i < length xs → heres service past (slice_set xs i y) ≡ put (heres service past xs) (suc i) (here_at service past y)
   put_index [] i y l = absurd (omega arith)
   put_index (x ∷ xs) zero y l = refl
-  put_index (x ∷ xs) (suc i) y l = ap (λ (hs : List Here). here_at service past x ∷ hs) (put_index xs i y (omega arith)) ∙ sym (later_put _ i _)
+  put_index (x ∷ xs) (suc i) y l = ap (λ hs. here_at service past x ∷ hs) (put_index xs i y (omega arith)) ∙ sym (later_put _ i _)
 
   new_index : (xs : List Member) (i : ℕ) (y : Member) → i < length xs → node_at (heres service past (slice_set xs i y)) (suc i) ≡ here_at service past y
   new_index [] i y l = absurd (omega arith)
@@ -56,7 +56,7 @@ module _ (service : Declarations) (past : List Value) where
   log_index : (xs : List Member) (i : ℕ) → i < length xs → (node_at (heres service past xs) (suc i)).log ≡ log_of service past (get_or (all_records xs) i [])
   log_index [] i l = absurd (omega arith)
   log_index (x ∷ xs) zero l = refl
-  log_index (x ∷ xs) (suc i) l = ap (λ (y : Here). y.log) (later_at _ _ i) ∙ log_index xs i (omega arith)
+  log_index (x ∷ xs) (suc i) l = ap (λ y. y.log) (later_at _ _ i) ∙ log_index xs i (omega arith)
 
   module _ (seed nodes : ℕ) where
     read_index : (k : ℕ) (xs : List Member) (i : ℕ) → AreMembers service past seed nodes k xs → i < length xs → AreRead service past (get_or (all_records xs) i [])
@@ -66,17 +66,17 @@ module _ (service : Declarations) (past : List Value) where
 
     member_from : (k : ℕ) (xs : List Member) (i : ℕ) (d : Member) → AreMembers service past seed nodes k xs → i < length xs → IsMember service past seed nodes (k + i) (get_or xs i d)
     member_from k [] i d all l = absurd (omega arith)
-    member_from k (x ∷ xs) zero d all l = let e : k + 0 ≡ k = omega arith in subst (λ (m : ℕ). IsMember service past seed nodes m x) (sym e) all.0
+    member_from k (x ∷ xs) zero d all l = let e : k + 0 ≡ k = omega arith in subst (λ m. IsMember service past seed nodes m x) (sym e) all.0
     member_from k (x ∷ xs) (suc i) d all l =
         let e : suc k + i ≡ k + suc i = omega arith in
-        subst (λ (m : ℕ). IsMember service past seed nodes m (get_or xs i d)) e (member_from (suc k) xs i d all.1 (omega arith))
+        subst (λ m. IsMember service past seed nodes m (get_or xs i d)) e (member_from (suc k) xs i d all.1 (omega arith))
 
     members_from : (k : ℕ) (xs : List Member) (i : ℕ) {y : Member} → AreMembers service past seed nodes k xs → IsMember service past seed nodes (k + i) y → AreMembers service past seed nodes k (slice_set xs i y)
     members_from k [] i all one = tt
-    members_from k (x ∷ xs) zero {y} all one = let e : k + 0 ≡ k = omega arith in (subst (λ (m : ℕ). IsMember service past seed nodes m y) e one, all.1)
+    members_from k (x ∷ xs) zero {y} all one = let e : k + 0 ≡ k = omega arith in (subst (λ m. IsMember service past seed nodes m y) e one, all.1)
     members_from k (x ∷ xs) (suc i) {y} all one =
         let e : k + suc i ≡ suc k + i = omega arith in
-        (all.0, members_from (suc k) xs i all.1 (subst (λ (m : ℕ). IsMember service past seed nodes m y) e one))
+        (all.0, members_from (suc k) xs i all.1 (subst (λ m. IsMember service past seed nodes m y) e one))
 
 -- ---- how often keepers fail
 
@@ -118,29 +118,29 @@ module _ (xs : List Member) {number : ℕ} (there : IsNode (length xs) number) w
 
   module _ (service : Declarations) (past : List Value) where
     pub here_is : (d : Member) → node_at (heres service past xs) number ≡ here_at service past (slice_index_or xs (number - 1) d)
-    here_is d = subst (λ (m : ℕ). node_at (heres service past xs) m ≡ here_at service past (slice_index_or xs (number - 1) d)) (sym is_next) (here_index service past xs _ d inside)
+    here_is d = subst (λ m. node_at (heres service past xs) m ≡ here_at service past (slice_index_or xs (number - 1) d)) (sym is_next) (here_index service past xs _ d inside)
 
     pub member_is : (d : Member) {seed nodes : ℕ} → AreMembers service past seed nodes 1 xs → IsMember service past seed nodes number (slice_index_or xs (number - 1) d)
     member_is d {seed} {nodes} all =
         let e : 1 + (number - 1) ≡ number = omega (arith, there.0) in
-        subst (λ (m : ℕ). IsMember service past seed nodes m (slice_index_or xs (number - 1) d)) e (member_from service past seed nodes 1 xs _ d all inside)
+        subst (λ m. IsMember service past seed nodes m (slice_index_or xs (number - 1) d)) e (member_from service past seed nodes 1 xs _ d all inside)
 
     pub log_is : (node_at (heres service past xs) number).log ≡ log_of service past (records_at xs number)
-    log_is = subst (λ (m : ℕ). (node_at (heres service past xs) m).log ≡ log_of service past (records_at xs number)) (sym is_next) (log_index service past xs _ inside)
+    log_is = subst (λ m. (node_at (heres service past xs) m).log ≡ log_of service past (records_at xs number)) (sym is_next) (log_index service past xs _ inside)
 
     pub read_is : (seed nodes : ℕ) → AreMembers service past seed nodes 1 xs → AreRead service past (records_at xs number)
     read_is seed nodes all = read_index service past seed nodes 1 xs _ all inside
 
     pub new_is : (y : Member) → node_at (heres service past (slice_set xs (number - 1) y)) number ≡ here_at service past y
-    new_is y = subst (λ (m : ℕ). node_at (heres service past (slice_set xs (number - 1) y)) m ≡ here_at service past y) (sym is_next) (new_index service past xs _ y inside)
+    new_is y = subst (λ m. node_at (heres service past (slice_set xs (number - 1) y)) m ≡ here_at service past y) (sym is_next) (new_index service past xs _ y inside)
 
     pub put_is : (y : Member) → heres service past (slice_set xs (number - 1) y) ≡ put (heres service past xs) number (here_at service past y)
-    put_is y = subst (λ (m : ℕ). heres service past (slice_set xs (number - 1) y) ≡ put (heres service past xs) m (here_at service past y)) (sym is_next) (put_index service past xs _ y inside)
+    put_is y = subst (λ m. heres service past (slice_set xs (number - 1) y) ≡ put (heres service past xs) m (here_at service past y)) (sym is_next) (put_index service past xs _ y inside)
 
     pub set_members : {seed nodes : ℕ} {y : Member} → AreMembers service past seed nodes 1 xs → IsMember service past seed nodes number y → AreMembers service past seed nodes 1 (slice_set xs (number - 1) y)
     set_members {seed} {nodes} {y} all one =
         let e : number ≡ 1 + (number - 1) = omega (arith, there.0) in
-        members_from service past seed nodes 1 xs _ all (subst (λ (m : ℕ). IsMember service past seed nodes m y) e one)
+        members_from service past seed nodes 1 xs _ all (subst (λ m. IsMember service past seed nodes m y) e one)
 
     -- so it is of a node that is at its place
     module _ {x : Member} (x_is : x ≡ slice_index_or xs (number - 1) x) where
@@ -159,16 +159,16 @@ module _ (xs : List Member) {ys : List Member} {number : ℕ} (there : IsNode (l
   many_are = ap length ys_are ∙ length-set xs (number - 1) new
 
   pub records_were : records_at xs number ≡ records_of old.keeper
-  records_were = records_was xs there old ∙ ap (λ (z : Member). records_of z.keeper) (sym old_is)
+  records_were = records_was xs there old ∙ ap (λ z. records_of z.keeper) (sym old_is)
 
   pub records_grown : Begins (records_of old.keeper) (records_of new.keeper) → Begins (records_at xs number) (records_at ys number)
   records_grown grown =
-      subst (λ (zs : List Member). Begins (records_at xs number) (records_at zs number)) (sym ys_are)
-      (subst (λ (rs : List (List ℕ)). Begins rs (records_at (slice_set xs (number - 1) new) number)) (sym records_were)
+      subst (λ zs. Begins (records_at xs number) (records_at zs number)) (sym ys_are)
+      (subst (λ rs. Begins rs (records_at (slice_set xs (number - 1) new) number)) (sym records_were)
       (subst (Begins (records_of old.keeper)) (sym (records_now xs there new)) grown))
 
   pub old_within : {most : ℕ} → AreWithin most xs → faults_of old.keeper ≤ most
-  old_within {most} all = subst (λ (z : Member). faults_of z.keeper ≤ most) (sym old_is) (within_is xs there old all)
+  old_within {most} all = subst (λ z. faults_of z.keeper ≤ most) (sym old_is) (within_is xs there old all)
 
   pub new_within : {most : ℕ} → AreWithin most xs → faults_of new.keeper ≤ most → AreWithin most ys
   new_within {most} all one = subst (AreWithin most) (sym ys_are) (set_within xs there new all one)
@@ -178,7 +178,7 @@ module _ (xs : List Member) {ys : List Member} {number : ℕ} (there : IsNode (l
     at_old = here_is xs there service past old ∙ ap (here_at service past) (sym old_is)
 
     pub at_new : node_at (heres service past ys) number ≡ here_at service past new
-    at_new = ap (λ (zs : List Member). node_at (heres service past zs) number) ys_are ∙ new_is xs there service past new
+    at_new = ap (λ zs. node_at (heres service past zs) number) ys_are ∙ new_is xs there service past new
 
     pub now_put : heres service past ys ≡ put (heres service past xs) number (here_at service past new)
     now_put = ap (heres service past) ys_are ∙ put_is xs there service past new

@@ -97,8 +97,8 @@ module _ {service : Declarations} {n : ℕ} (few : n ≤ most_nodes) {w : World}
   all_fit past [] told inside = All-nil message.IsMessage
   all_fit past (m ∷ ms) told inside =
       All-cons message.IsMessage m ms
-      (message_fits service past few (All-head (λ (x : Said). IsTold service past x.content) m ms told) (numbers.messages (message_in past m) (inside (message_in past m) (inl refl))) (short_of _ (inside (message_in past m) (inl refl))))
-      (all_fit past ms (All-tail (λ (x : Said). IsTold service past x.content) m ms told) (λ x i. inside x (inr i)))
+      (message_fits service past few (All-head (λ x. IsTold service past x.content) m ms told) (numbers.messages (message_in past m) (inside (message_in past m) (inl refl))) (short_of _ (inside (message_in past m) (inl refl))))
+      (all_fit past ms (All-tail (λ x. IsTold service past x.content) m ms told) (λ x i. inside x (inr i)))
 
 -- it is behind other messages
 pub is_behind : {A : Type 0} (xs ys : List A) (x : A) → IsIn x ys → IsIn x (xs ++ ys)

@@ -22,10 +22,10 @@ told_of service w line = (row service w.requests w.seed (nodes_of w) (world_of s
 releases_next : {S : Type 0} → (service : Declarations) {s : Scenario} {w : World S} {line : ScheduleLine} {rest left : List ScheduleLine} → IsOf s w → left ≡ line ∷ rest
     → releases_from service s (world_of service w) left ≡ filter is_release (told_of service w line) ++ releases_from service s (next_of service w line) rest
 releases_next service {s} {w} {line} {rest} {left} of l =
-    subst (λ (n : ℕ). filter is_release (effects_of service s.requests s.seed n (world_of service w) left) ≡ first ++ filter is_release (effects_of service s.requests s.seed n (next_of service w line) rest)) of.nodes
-    (subst (λ (seed : ℕ). filter is_release (effects_of service s.requests seed (nodes_of w) (world_of service w) left) ≡ first ++ filter is_release (effects_of service s.requests seed (nodes_of w) (next_of service w line) rest)) of.seed
-    (subst (λ (requests : List Request). filter is_release (effects_of service requests w.seed (nodes_of w) (world_of service w) left) ≡ first ++ filter is_release (effects_of service requests w.seed (nodes_of w) (next_of service w line) rest)) of.requests
-    (ap (λ (ls : List ScheduleLine). filter is_release (effects_of service w.requests w.seed (nodes_of w) (world_of service w) ls)) l
+    subst (λ n. filter is_release (effects_of service s.requests s.seed n (world_of service w) left) ≡ first ++ filter is_release (effects_of service s.requests s.seed n (next_of service w line) rest)) of.nodes
+    (subst (λ seed. filter is_release (effects_of service s.requests seed (nodes_of w) (world_of service w) left) ≡ first ++ filter is_release (effects_of service s.requests seed (nodes_of w) (next_of service w line) rest)) of.seed
+    (subst (λ requests. filter is_release (effects_of service requests w.seed (nodes_of w) (world_of service w) left) ≡ first ++ filter is_release (effects_of service requests w.seed (nodes_of w) (next_of service w line) rest)) of.requests
+    (ap (λ ls. filter is_release (effects_of service w.requests w.seed (nodes_of w) (world_of service w) ls)) l
     ∙ filter-append is_release (told_of service w line) (effects_of service w.requests w.seed (nodes_of w) (next_of service w line) rest))))
   where
     first : List Effect
@@ -36,13 +36,13 @@ pub releases_more : {S : Type 0} → (service : Declarations) {s : Scenario} {w 
     → world_of service after ≡ next_of service w line → told ≡ told_of service w line → now ≡ had ++ filter is_release told
     → had ++ releases_from service s (world_of service w) left ≡ whole → now ++ releases_from service s (world_of service after) rest ≡ whole
 releases_more service {s} {w} after {line} {rest} {left} had of l world told_is now_is before =
-    ap (λ (es : List Effect). es ++ releases_from service s (world_of service after) rest) (now_is ∙ ap (λ (es : List Effect). had ++ filter is_release es) told_is)
-    ∙ ap (λ (x : ModelWorld). (had ++ filter is_release (told_of service w line)) ++ releases_from service s x rest) world
+    ap (λ es. es ++ releases_from service s (world_of service after) rest) (now_is ∙ ap (λ es. had ++ filter is_release es) told_is)
+    ∙ ap (λ x. (had ++ filter is_release (told_of service w line)) ++ releases_from service s x rest) world
     ∙ append_assoc had (filter is_release (told_of service w line)) (releases_from service s (next_of service w line) rest)
-    ∙ ap (λ (es : List Effect). had ++ es) (sym (releases_next service of l))
+    ∙ ap (λ es. had ++ es) (sym (releases_next service of l))
     ∙ before
 
 -- none are left at the end
 pub releases_all : {S : Type 0} → (service : Declarations) (s : Scenario) (w : World S) {left : List ScheduleLine} {had whole : List Effect} → left ≡ [] → had ++ releases_from service s (world_of service w) left ≡ whole → had ≡ whole
 releases_all service s w {had} none before =
-    sym (append-nil had) ∙ ap (λ (ls : List ScheduleLine). had ++ releases_from service s (world_of service w) ls) (sym none) ∙ before
+    sym (append-nil had) ∙ ap (λ ls. had ++ releases_from service s (world_of service w) ls) (sym none) ∙ before

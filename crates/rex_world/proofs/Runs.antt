@@ -13,15 +13,15 @@ use Rattle.rex_world.specs.World.{nodes_of, world_of}
 -- the items from a place on
 pub drop_next : {X : Type 0} {xs same : List X} {i : ℕ} {d : X} → same ≡ xs → i < length same → d ≡ get_or same i d → drop i xs ≡ d ∷ drop (i + 1) xs
 drop_next {X} {same} {i} {d} e lt is =
-    subst (λ (ys : List X). drop i ys ≡ d ∷ drop (i + 1) ys) e
-    (drop-cons same i d lt ∙ ap (λ (x : X). x ∷ drop (suc i) same) (sym is) ∙ ap (λ (n : ℕ). d ∷ drop n same) (one_on i))
+    subst (λ ys. drop i ys ≡ d ∷ drop (i + 1) ys) e
+    (drop-cons same i d lt ∙ ap (λ x. x ∷ drop (suc i) same) (sym is) ∙ ap (λ n. d ∷ drop n same) (one_on i))
   where
     one_on : (n : ℕ) → suc n ≡ n + 1
     one_on n = omega arith
 
 -- none are left at the end
 pub drop_end : {X : Type 0} {xs same : List X} {i : ℕ} → same ≡ xs → length same ≤ i → drop i xs ≡ []
-drop_end {X} {same} {i} e le = subst (λ (ys : List X). drop i ys ≡ []) e (past same i le)
+drop_end {X} {same} {i} e le = subst (λ ys. drop i ys ≡ []) e (past same i le)
   where
     past : (ys : List X) (j : ℕ) → length ys ≤ j → drop j ys ≡ []
     past [] zero h = refl
@@ -38,9 +38,9 @@ pub report_next : {S : Type 0} → (service : Declarations) {s : Scenario} {w : 
     → report_from service s.requests s.seed s.nodes (world_of service w) left
     ≡ effects_text service (w.done + 1) (row service w.requests w.seed (nodes_of w) (world_of service w) line).effects ++ report_from service s.requests s.seed s.nodes (next_of service w line) rest
 report_next service {s} {w} {line} {rest} {left} of l =
-    subst (λ (n : ℕ). report_from service s.requests s.seed n (world_of service w) left ≡ text ++ report_from service s.requests s.seed n (next_of service w line) rest) of.nodes
-    (subst (λ (seed : ℕ). report_from service s.requests seed (nodes_of w) (world_of service w) left ≡ text ++ report_from service s.requests seed (nodes_of w) (next_of service w line) rest) of.seed
-    (subst (λ (requests : List Request). report_from service requests w.seed (nodes_of w) (world_of service w) left ≡ text ++ report_from service requests w.seed (nodes_of w) (next_of service w line) rest) of.requests
+    subst (λ n. report_from service s.requests s.seed n (world_of service w) left ≡ text ++ report_from service s.requests s.seed n (next_of service w line) rest) of.nodes
+    (subst (λ seed. report_from service s.requests seed (nodes_of w) (world_of service w) left ≡ text ++ report_from service s.requests seed (nodes_of w) (next_of service w line) rest) of.seed
+    (subst (λ requests. report_from service requests w.seed (nodes_of w) (world_of service w) left ≡ text ++ report_from service requests w.seed (nodes_of w) (next_of service w line) rest) of.requests
     (ap (report_from service w.requests w.seed (nodes_of w) (world_of service w)) l)))
   where
     text : List ℕ
@@ -52,4 +52,4 @@ still_of of same = record { nodes = same.nodes ∙ of.nodes; requests = same.req
 
 -- one more line is done
 pub done_next : {S : Type 0} → (service : Declarations) (w after : World S) (line : ScheduleLine) → world_of service after ≡ next_of service w line → after.done ≡ w.done + 1
-done_next service w after line e = ap (λ (x : ModelWorld). x.done) e
+done_next service w after line e = ap (λ x. x.done) e

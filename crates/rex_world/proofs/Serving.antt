@@ -53,7 +53,7 @@ use Rattle.rex_world.proofs.Working.{can_be_cut, room}
 
 -- a step that sends nothing tells no state
 pub none_told : (service : Declarations) (past : List Value) {sends : List Said} → sends ≡ [] → AreTold service past sends
-none_told service past e = subst (AreTold service past) (sym e) (All-nil (λ (m : Said). IsTold service past m.content))
+none_told service past e = subst (AreTold service past) (sym e) (All-nil (λ m. IsTold service past m.content))
 
 -- ---- a message that is handed over, without its flag
 
@@ -66,7 +66,7 @@ module _ (service : Declarations) (seed n : ℕ) (w : ModelWorld) (number m : �
     numbers = record { nodes = k.numbers.nodes; messages = k.numbers.messages };
     handed =
         length-append w.handed (replicate (length d.sends) false)
-        ∙ ap (λ (j : ℕ). j + length (replicate (length d.sends) false)) (sym (length-set w.handed (number - 1) true))
+        ∙ ap (λ j. j + length (replicate (length d.sends) false)) (sym (length-set w.handed (number - 1) true))
         ∙ sym (length-append (slice_set w.handed (number - 1) true) (replicate (length d.sends) false)) ∙ k.handed;
   }
   unmarked false k = record {
@@ -110,7 +110,7 @@ module _ {S : Type 0} (service : Declarations) (w : World S) (h : IsRunning serv
 
     may_receive : {message : Said} {number : ℕ} → IsSent w.net number message → message.to ≡ m → MayReceive service w.agreed w.seed (nodes_of w) m (disarmed x) message
     may_receive {message} {number} sent to =
-        subst (λ (k : ℕ). MayReceive service w.agreed w.seed (nodes_of w) k (disarmed (node_at model.nodes k)) message) to
+        subst (λ k. MayReceive service w.agreed w.seed (nodes_of w) k (disarmed (node_at model.nodes k)) message) to
         (record {
           fits = fits service w h number message sent;
           spelling = sent.spelling;
@@ -141,9 +141,9 @@ module _ {S : Type 0} (service : Declarations) (w : World S) (h : IsRunning serv
 
     receive_kept : {message : Said} {number : ℕ} → IsSent w.net number message → message.to ≡ m → Kept (at_node model m (receive (nodes_of w) sv m message.from (content_in w.agreed message.content))).world
     receive_kept {message} {number} sent to =
-        subst (λ (k : ℕ). Kept (at_node model k (receive (nodes_of w) sv k message.from (content_in w.agreed message.content))).world) to
+        subst (λ k. Kept (at_node model k (receive (nodes_of w) sv k message.from (content_in w.agreed message.content))).world) to
         (unmarked service w.seed _ model number _ _ _
-        (subst (λ (o : Option (Message Value)). Kept (deliver_found service w.seed (nodes_of w) model number o).world) (sent_at w.agreed number sent)
+        (subst (λ o. Kept (deliver_found service w.seed (nodes_of w) model number o).world) (sent_at w.agreed number sent)
         (kept_next h (line.Deliver number) (sent_within number sent).0)))
 
     submit_kept : {request : Request} → RequestFits service request → Kept (at_node model m (if_active (submit_request service (Some request)))).world
@@ -152,7 +152,7 @@ module _ {S : Type 0} (service : Declarations) (w : World S) (h : IsRunning serv
 
     lane_kept : {lane : ℕ} {clock : ℤ} → lane < service.lanes → clock ≡ pos w.done → Kept (at_node model m (if_active (λ d. turned service lane (turn_at service d.node lane clock) d))).world
     lane_kept {lane} l e =
-        subst (λ (c : ℤ). Kept (at_node model m (if_active (λ d. turned service lane (turn_at service d.node lane c) d))).world) (sym e) (kept_next h (line.Lane m lane) (there, l))
+        subst (λ c. Kept (at_node model m (if_active (λ d. turned service lane (turn_at service d.node lane c) d))).world) (sym e) (kept_next h (line.Lane m lane) (there, l))
 
     cut_kept : (limits : Option (List ℕ)) → AreLimits service limits → Kept (at_node model m (cut service w.seed (nodes_of w) m (counts_for service x limits))).world
     cut_kept None l = kept_next h (line.Cut m) there
@@ -177,7 +177,7 @@ module _ {S : Type 0} (service : Declarations) (w : World S) (h : IsRunning serv
     lawful (Lane lane clock) may = record {
       goes = λ f. active_either (λ d. turned service lane (turn_at service d.node lane clock) d) (λ d. refl) (λ d. refl);
       kept = lane_kept may.0 may.1;
-      releases = subst (λ (c : ℤ). (y : Here) → y.up ≡ true → AreReleased (if_active (λ d. turned service lane (turn_at service d.node lane c) d) (begin y)).node (if_active (λ d. turned service lane (turn_at service d.node lane c) d) (begin y)).effects) (sym may.1)
+      releases = subst (λ c. (y : Here) → y.up ≡ true → AreReleased (if_active (λ d. turned service lane (turn_at service d.node lane c) d) (begin y)).node (if_active (λ d. turned service lane (turn_at service d.node lane c) d) (begin y)).effects) (sym may.1)
           (lane_releases h.service_is h.checked w.seed (nodes_of w) m w.done lane);
     }
     lawful (Cut limits) may = record {
@@ -214,7 +214,7 @@ module _ {S : Type 0} (service : Declarations) (w : World S) (h : IsRunning serv
       many = many_are _ there new old_is nodes_are
 
       came_at : HasCome w.agreed d (node_at (heres service w.agreed nodes.items) m) step
-      came_at = subst (λ (y : Here). HasCome w.agreed d y step) (sym (at_new _ there new old_is nodes_are service w.agreed)) come
+      came_at = subst (λ y. HasCome w.agreed d y step) (sym (at_new _ there new old_is nodes_are service w.agreed)) come
 
       all_kept : AreKept service w.agreed w.seed (nodes_of w) w.done nodes.items
       all_kept = all_stay _ there new old_is nodes_are service w.agreed w.seed _ stays (record { members = h.members; within = h.within })
@@ -229,9 +229,9 @@ module _ {S : Type 0} (service : Declarations) (w : World S) (h : IsRunning serv
       pub can_be_told : CanBeTold service (record w { nodes = nodes }) m step
       can_be_told = record {
         sends = sends_fit;
-        releases = subst (λ (y : Here). AreReleased y step.effects) (sym came_at.node) (subst (AreReleased d.node) (sym come.effects) released);
-        few = subst (λ (k : ℕ). k ≤ most_nodes) (sym many) h.few;
-        members = subst (λ (k : ℕ). AreMembers service w.agreed w.seed k 1 nodes.items) (sym many) all_kept.members;
+        releases = subst (λ y. AreReleased y step.effects) (sym came_at.node) (subst (AreReleased d.node) (sym come.effects) released);
+        few = subst (λ k. k ≤ most_nodes) (sym many) h.few;
+        members = subst (λ k. AreMembers service w.agreed w.seed k 1 nodes.items) (sym many) all_kept.members;
         clients = h.clients;
       }
 
@@ -278,7 +278,7 @@ module _ {S : Type 0} (service : Declarations) (w : World S) (h : IsRunning serv
       room_old = let r = member_old.keeping.room in omega (arith, r)
 
       pub records_old : {count : ℕ} → count ≡ length (records_of old.keeper) → count ≡ length (records_at w.nodes.items m)
-      records_old e = e ∙ ap length (ap (λ (y : Member). records_of y.keeper) old_is ∙ sym (records_was _ there old))
+      records_old e = e ∙ ap length (ap (λ y. records_of y.keeper) old_is ∙ sym (records_was _ there old))
 
       -- ---- a call
 
@@ -290,32 +290,32 @@ module _ {S : Type 0} (service : Declarations) (w : World S) (h : IsRunning serv
         same_call : call_for service w.agreed old.seed old.nodes old.id (here_of records_of service w.agreed old) call ≡ call_at service w m call
         same_call =
             unarmed_call service w.agreed old.seed old.nodes old.id (here_at service w.agreed old) call
-            ∙ ap (λ (y : Here). call_for service w.agreed old.seed old.nodes old.id y call) (sym here_old)
-            ∙ ap (λ (s : ℕ). call_for service w.agreed s old.nodes old.id x call) member_old.seed_is
-            ∙ ap (λ (n : ℕ). call_for service w.agreed w.seed n old.id x call) member_old.nodes_are
-            ∙ ap (λ (k : ℕ). call_for service w.agreed w.seed (nodes_of w) k x call) member_old.id
+            ∙ ap (λ y. call_for service w.agreed old.seed old.nodes old.id y call) (sym here_old)
+            ∙ ap (λ s. call_for service w.agreed s old.nodes old.id x call) member_old.seed_is
+            ∙ ap (λ n. call_for service w.agreed w.seed n old.id x call) member_old.nodes_are
+            ∙ ap (λ k. call_for service w.agreed w.seed (nodes_of w) k x call) member_old.id
 
         pub may_serve : MayServe service w.agreed old.seed old.nodes old.id (here_of records_of service w.agreed old) call
         may_serve =
             unnamed member_old (λ n s k. MayServe service w.agreed s n k (here_of records_of service w.agreed old) call)
-            (subst (λ (y : Here). MayServe service w.agreed w.seed (nodes_of w) m (disarmed y) call) here_old (can_serve call may))
+            (subst (λ y. MayServe service w.agreed w.seed (nodes_of w) m (disarmed y) call) here_old (can_serve call may))
 
         goes_so : (f : Option Failure) → Goes f (call_for service w.agreed old.seed old.nodes old.id (here_of records_of service w.agreed old) call)
-        goes_so = subst (λ (k : CallHere → CallHere). (f : Option Failure) → Goes f k) (sym same_call) (lawful call may).goes
+        goes_so = subst (λ k. (f : Option Failure) → Goes f k) (sym same_call) (lawful call may).goes
 
         module _ {new : Member} {step : Step} (serves : Serves records_of follows (λ k. k.faults) service w.agreed (call_for service w.agreed old.seed old.nodes old.id (here_of records_of service w.agreed old) call) old new step) where
           pub call_come : HasCome w.agreed (served m (call_at service w m call) x) (here_at service w.agreed new) step
           call_come =
-              subst (λ (y : Here). HasCome w.agreed (served m (call_at service w m call) y) (here_at service w.agreed new) step) (sym here_old)
-              (subst (λ (k : ℕ). HasCome w.agreed (served k (call_at service w m call) (here_at service w.agreed old)) (here_at service w.agreed new) step) member_old.id
-              (subst (λ (c : CallHere → CallHere). HasCome w.agreed (served old.id c (here_at service w.agreed old)) (here_at service w.agreed new) step) same_call
+              subst (λ y. HasCome w.agreed (served m (call_at service w m call) y) (here_at service w.agreed new) step) (sym here_old)
+              (subst (λ k. HasCome w.agreed (served k (call_at service w m call) (here_at service w.agreed old)) (here_at service w.agreed new) step) member_old.id
+              (subst (λ c. HasCome w.agreed (served old.id c (here_at service w.agreed old)) (here_at service w.agreed new) step) same_call
               (has_come service w.agreed old new _ step goes_so serves)))
 
           pub call_stays : StaysNode records_of service w.agreed old new → StaysMember service w.agreed w.seed (nodes_of w) m old new
           call_stays stays = serves_stays member_old new _ step goes_so stays serves
 
         pub call_kept : Kept (after model m (served m (call_at service w m call) x)).world
-        call_kept = subst (λ (r : Row). Kept r.world) (sym (served_row model m (call_at service w m call))) (lawful call may).kept
+        call_kept = subst (λ r. Kept r.world) (sym (served_row model m (call_at service w m call))) (lawful call may).kept
 
         pub call_released : AreReleased (served m (call_at service w m call) x).node (served m (call_at service w m call) x).effects
         call_released = served_released (call_at service w m call) (lawful call may).releases
@@ -325,14 +325,14 @@ module _ {S : Type 0} (service : Declarations) (w : World S) (h : IsRunning serv
       module _ (new : Member) (step : Step) where
         pub stop_come : HasCome w.agreed (served old.id (stop old.id) (here_at service w.agreed old)) (here_at service w.agreed new) step → HasCome w.agreed (served m (stop m) x) (here_at service w.agreed new) step
         stop_come come =
-            subst (λ (y : Here). HasCome w.agreed (served m (stop m) y) (here_at service w.agreed new) step) (sym here_old)
-            (subst (λ (k : ℕ). HasCome w.agreed (served k (stop k) (here_at service w.agreed old)) (here_at service w.agreed new) step) member_old.id come)
+            subst (λ y. HasCome w.agreed (served m (stop m) y) (here_at service w.agreed new) step) (sym here_old)
+            (subst (λ k. HasCome w.agreed (served k (stop k) (here_at service w.agreed old)) (here_at service w.agreed new) step) member_old.id come)
 
         pub start_come : HasCome w.agreed (started (service_of service old.seed) old.id (here_at service w.agreed old)) (here_at service w.agreed new) step → HasCome w.agreed (started sv m x) (here_at service w.agreed new) step
         start_come come =
-            subst (λ (y : Here). HasCome w.agreed (started sv m y) (here_at service w.agreed new) step) (sym here_old)
-            (subst (λ (k : ℕ). HasCome w.agreed (started sv k (here_at service w.agreed old)) (here_at service w.agreed new) step) member_old.id
-            (subst (λ (s : ℕ). HasCome w.agreed (started (service_of service s) old.id (here_at service w.agreed old)) (here_at service w.agreed new) step) member_old.seed_is come))
+            subst (λ y. HasCome w.agreed (started sv m y) (here_at service w.agreed new) step) (sym here_old)
+            (subst (λ k. HasCome w.agreed (started sv k (here_at service w.agreed old)) (here_at service w.agreed new) step) member_old.id
+            (subst (λ s. HasCome w.agreed (started (service_of service s) old.id (here_at service w.agreed old)) (here_at service w.agreed new) step) member_old.seed_is come))
 
       pub still_own : {new : Member} → StaysMember service w.agreed old.seed old.nodes old.id old new → StaysMember service w.agreed w.seed (nodes_of w) m old new
       still_own {new} stays = by_number member_old new stays
@@ -341,13 +341,13 @@ module _ {S : Type 0} (service : Declarations) (w : World S) (h : IsRunning serv
       starts_old = subst (Starts service w.agreed) here_old (starts_from h there)
 
     pub stop_kept : Kept (after model m (served m (stop m) x)).world
-    stop_kept = subst (λ (r : Row). Kept r.world) (sym (served_row model m (stop m))) (kept_next h (line.Stop m) there)
+    stop_kept = subst (λ r. Kept r.world) (sym (served_row model m (stop m))) (kept_next h (line.Stop m) there)
 
     pub stop_released : AreReleased (served m (stop m) x).node (served m (stop m) x).effects
     stop_released = served_released (stop m) (stop_releases h.service_is h.checked w.seed (nodes_of w) m)
 
     pub start_kept : Kept (after model m (started sv m x)).world
-    start_kept = subst (λ (r : Row). Kept r.world) (sym (started_row sv model m)) (kept_next h (line.Start m) there)
+    start_kept = subst (λ r. Kept r.world) (sym (started_row sv model m)) (kept_next h (line.Start m) there)
 
     pub start_released : AreReleased (started sv m x).node (started sv m x).effects
     start_released = started_released

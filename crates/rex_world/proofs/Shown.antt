@@ -39,7 +39,7 @@ releases_long stamp (e ∷ es) seen = releases_long stamp es _ ∙ release_long 
 
 -- one among them was released as all were
 pub one_released : {x : Here} {es : List Effect} {i : ℕ} {e : Effect} (d : Effect) → i < length es → e ≡ slice_index_or es i d → AreReleased x es → AreReleased x (e ∷ [])
-one_released {es} {i} d l is h = record { leads = λ c s v. elim [ inl y ↦ h.leads c s v (subst (λ (f : Effect). IsAmong f es) (sym is ∙ y) (at es i l)) | inr y ↦ absurd y ] }
+one_released {es} {i} d l is h = record { leads = λ c s v. elim [ inl y ↦ h.leads c s v (subst (λ f. IsAmong f es) (sym is ∙ y) (at es i l)) | inr y ↦ absurd y ] }
   where
     at : (xs : List Effect) (k : ℕ) → k < length xs → IsAmong (slice_index_or xs k d) xs
     at [] k m = absurd (omega (arith, m))

@@ -39,19 +39,19 @@ module _ {service : Declarations} {past : List Value} {old : Member} (member : I
   told_is : effect.Started old.id old.acceptor.promised (count_of old) old.replayed ≡ told_up
   told_is =
       let u = member.node.up up in
-      ap (λ (n : ℕ). effect.Started old.id n (count_of old) old.replayed) u.promised
-      ∙ ap (λ (n : ℕ). effect.Started old.id (promise h.log) n old.replayed) (count_known old member.node up)
+      ap (λ n. effect.Started old.id n (count_of old) old.replayed) u.promised
+      ∙ ap (λ n. effect.Started old.id (promise h.log) n old.replayed) (count_known old member.node up)
 
   pub told_started : (result : Result Step Refusal) {id promised many replayed : ℕ} → id ≡ old.id → promised ≡ old.acceptor.promised → many ≡ count_of old → replayed ≡ old.replayed
       → IfOk result (λ (step : Step). step.effects ≡ effect.Started id promised many replayed ∷ []) → IfOk result (λ (step : Step). step.effects ≡ told_up ∷ [])
   told_started (Err refusal) a b d e told = tt
   told_started (Ok step) {promised} {many} {replayed} a b d e told =
       told
-      ∙ ap (λ (n : ℕ). effect.Started n promised many replayed ∷ []) a
-      ∙ ap (λ (n : ℕ). effect.Started old.id n many replayed ∷ []) b
-      ∙ ap (λ (n : ℕ). effect.Started old.id old.acceptor.promised n replayed ∷ []) d
-      ∙ ap (λ (n : ℕ). effect.Started old.id old.acceptor.promised (count_of old) n ∷ []) e
-      ∙ ap (λ (x : Effect). x ∷ []) told_is
+      ∙ ap (λ n. effect.Started n promised many replayed ∷ []) a
+      ∙ ap (λ n. effect.Started old.id n many replayed ∷ []) b
+      ∙ ap (λ n. effect.Started old.id old.acceptor.promised n replayed ∷ []) d
+      ∙ ap (λ n. effect.Started old.id old.acceptor.promised (count_of old) n ∷ []) e
+      ∙ ap (λ x. x ∷ []) told_is
 
   -- or it is migrated
   module _ (new : Member) (migrated : Step) (does : Does records_of follows (λ k. k.faults) service past (migrate (service_of service old.seed) old.id) old new migrated) where
@@ -64,8 +64,8 @@ module _ {service : Declarations} {past : List Value} {old : Member} (member : I
           node = done.node;
           sends = sends ∙ no_messages past _ (done.sends ∙ none);
           effects =
-              effects ∙ ap (λ (es : List Effect). es ++ migrated.effects) first_is
-              ∙ ap (λ (es : List Effect). told_up ∷ es) done.effects;
+              effects ∙ ap (λ es. es ++ migrated.effects) first_is
+              ∙ ap (λ es. told_up ∷ es) done.effects;
         }
 
     pub migrate_stays : StaysNode records_of service past old new → EndsDown old.id old.keeper.faults new.keeper.faults new.up migrated → StaysMember service past old.seed old.nodes old.id old new
@@ -84,16 +84,16 @@ pub is_member : {service : Declarations} {past : List Value} {old down new : Mem
     → HasRightBase service (log_of service past (records_of down.keeper)) → HasForgotten past (log_of service past (records_of down.keeper)) → IsNode records_of service past new)
     → IsMember service past new.seed new.nodes new.id new
 is_member {service} {past} {old} {new} member starts is same kept =
-    let keeper_is : new.keeper ≡ record old.keeper { broken = false } = same ∙ ap (λ (x : Member). x.keeper) is in
+    let keeper_is : new.keeper ≡ record old.keeper { broken = false } = same ∙ ap (λ x. x.keeper) is in
     record {
       id = refl;
       nodes_are = refl;
       seed_is = refl;
       node =
-          kept (subst (λ (x : Member). HasReached service x.offset (knows past x) x.reached) (sym is) member.node.reached)
-          (subst (λ (x : Member). values_fit service (known (log_of service past (records_of x.keeper))) ≡ true) (sym is) starts.fit)
-          (subst (λ (x : Member). HasRightBase service (log_of service past (records_of x.keeper))) (sym is) starts.base)
-          (subst (λ (x : Member). HasForgotten past (log_of service past (records_of x.keeper))) (sym is) starts.forgotten);
+          kept (subst (λ x. HasReached service x.offset (knows past x) x.reached) (sym is) member.node.reached)
+          (subst (λ x. values_fit service (known (log_of service past (records_of x.keeper))) ≡ true) (sym is) starts.fit)
+          (subst (λ x. HasRightBase service (log_of service past (records_of x.keeper))) (sym is) starts.base)
+          (subst (λ x. HasForgotten past (log_of service past (records_of x.keeper))) (sym is) starts.forgotten);
       keeping = subst (IsKeeping service past) (sym keeper_is) (record { read = member.keeping.read; stated = member.keeping.stated; room = member.keeping.room });
-      whole = λ _. ap (λ (k : KeeperValue). k.broken) keeper_is;
+      whole = λ _. ap (λ k. k.broken) keeper_is;
     }

@@ -52,7 +52,7 @@ module _ {S : Type 0} {service : Declarations} {w : World S} (h : IsRunning serv
   calls_run : {m : ℕ} → IsNode (nodes_of w) m → {call : CallHere → CallHere}
       → ((d : CallHere) → KeepsAll (nodes_of w) sv (logs model) (roles model) model.messages m d → KeepsAll (nodes_of w) sv (logs model) (roles model) model.messages m (call d))
       → RunsOn service call (begin (node_at model.nodes m))
-  calls_run {m} there {call} keeps = subst (λ (x : Here). values_fit service (known x.log) ≡ true) new ((next_fits service w.seed _ next ok).known m there)
+  calls_run {m} there {call} keeps = subst (λ x. values_fit service (known x.log) ≡ true) new ((next_fits service w.seed _ next ok).known m there)
     where
       d : CallHere
       d = call (begin (node_at model.nodes m))
@@ -64,10 +64,10 @@ module _ {S : Type 0} {service : Declarations} {w : World S} (h : IsRunning serv
       ok = (called _ sv model h.kept.world m there call keeps).0
 
       inside : IsNode (length model.nodes) m
-      inside = subst (λ (k : ℕ). IsNode k m) (sym (many_here service w.agreed _)) there
+      inside = subst (λ k. IsNode k m) (sym (many_here service w.agreed _)) there
 
       new : node_at (put model.nodes m d.node) m ≡ d.node
-      new = node_put _ m d.node m inside ∙ ap (λ (t : Bool). cond t d.node (node_at model.nodes m)) (eq-eqb m m refl)
+      new = node_put _ m d.node m inside ∙ ap (λ t. cond t d.node (node_at model.nodes m)) (eq-eqb m m refl)
 
   -- so it does where the node's keeper isn't armed
   pub runs_after : {m : ℕ} → IsNode (nodes_of w) m → {call : CallHere → CallHere}

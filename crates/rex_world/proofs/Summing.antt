@@ -24,7 +24,7 @@ use Rattle.rex_world.proofs.Agreeing.{holds_of_longest}
 agreed_fit : {S : Type 0} → KeptValuesFit → {service : Declarations} {w : World S} → IsRunning service w → values_fit service (agreed (world_of service w)) ≡ true
 agreed_fit law {service} {w} h =
     holds_of_longest (λ values. values_fit service values ≡ true) _ refl
-    (λ m there. (law service w.seed (nodes_of w) (world_of service w) h.service_is h.checked h.kept).next.known m (subst (λ (n : ℕ). IsNode n m) h.kept.world.many there))
+    (λ m there. (law service w.seed (nodes_of w) (world_of service w) h.service_is h.checked h.kept).next.known m (subst (λ n. IsNode n m) h.kept.world.many there))
 
 some_is : {A : Type 0} {o : Option A} {x : A} → o ≡ Some x → IsSome o
 some_is h = rw h refl
@@ -34,7 +34,7 @@ pub agreed_runs : {S : Type 0} → KeptValuesFit → {service : Declarations} {w
 agreed_runs law {service} {w} {values} {start} h is at =
     let r = fit_run service _ (agreed_fit law h) in
     some_is
-    (ap (λ (s : StateValue). run service s (trace_of values)) at ∙ ap (λ (vs : List Value). run service (start_of service) (trace_of vs)) is ∙ r.1)
+    (ap (λ s. run service s (trace_of values)) at ∙ ap (λ vs. run service (start_of service) (trace_of vs)) is ∙ r.1)
 
 -- as many messages as the network has bytes of
 as_many : (past : List Value) (net : List (List ℕ)) → length (messages_of past net) ≡ length net
@@ -49,19 +49,19 @@ pub summary_is : {S : Type 0} → (service : Declarations) (s : Scenario) (first
     → ◌≡◌ {A = Summary} (record { lines = lines; messages = messages; known = known_ones; released = released; variables = variables }) (summary_of service s)
 summary_is service s first last {values} {state} {lines} {messages} {known_ones} {released} {variables} first_is last_is releases_are values_are start_is ran lines_is messages_is known_is released_is variables_are =
     same lines_is
-    (messages_is ∙ sym (as_many _ last.net) ∙ ap (λ (w : ModelWorld). length w.messages) ended)
+    (messages_is ∙ sym (as_many _ last.net) ∙ ap (λ w. length w.messages) ended)
     (known_is ∙ ap length agreed_is)
-    (released_is ∙ ap length (releases_are ∙ ap (λ (w : ModelWorld). releases_from service s w s.schedule) first_is))
-    (variables_are ∙ ap (λ (x : StateValue). x.variables) (sym after) ∙ ap (λ (vs : List Value). (state_after service (trace_of vs)).variables) agreed_is)
+    (released_is ∙ ap length (releases_are ∙ ap (λ w. releases_from service s w s.schedule) first_is))
+    (variables_are ∙ ap (λ x. x.variables) (sym after) ∙ ap (λ vs. (state_after service (trace_of vs)).variables) agreed_is)
   where
     ended : world_of service last ≡ last_world service s
-    ended = last_is ∙ ap (λ (w : ModelWorld). after_lines service s.requests s.seed s.nodes w s.schedule) first_is
+    ended = last_is ∙ ap (λ w. after_lines service s.requests s.seed s.nodes w s.schedule) first_is
 
     agreed_is : values ≡ agreed (last_world service s)
     agreed_is = values_are ∙ ap agreed ended
 
     after : state_after service (trace_of values) ≡ state
-    after = ap (λ o. unwrap_or o (start_of service)) (ap (λ (x : StateValue). run service x (trace_of values)) (sym start_is) ∙ ran)
+    after = ap (λ o. unwrap_or o (start_of service)) (ap (λ x. run service x (trace_of values)) (sym start_is) ∙ ran)
 
     same : {a b c d : ℕ} {e : List ℤ} → lines ≡ a → messages ≡ b → known_ones ≡ c → released ≡ d → variables ≡ e
         → ◌≡◌ {A = Summary} (record { lines = lines; messages = messages; known = known_ones; released = released; variables = variables }) (record { lines = a; messages = b; known = c; released = d; variables = e })

@@ -14,9 +14,9 @@ use Rattle.rex_world.proofs.Runs.{next_of}
 pub follow_next : {S : Type 0} → (service : Declarations) {s : Scenario} {w : World S} {line : ScheduleLine} {rest left : List ScheduleLine} → IsOf s w → left ≡ line ∷ rest
     → after_lines service s.requests s.seed s.nodes (world_of service w) left ≡ after_lines service s.requests s.seed s.nodes (next_of service w line) rest
 follow_next service {s} {w} {line} {rest} {left} of l =
-    subst (λ (n : ℕ). after_lines service s.requests s.seed n (world_of service w) left ≡ after_lines service s.requests s.seed n (next_of service w line) rest) of.nodes
-    (subst (λ (seed : ℕ). after_lines service s.requests seed (nodes_of w) (world_of service w) left ≡ after_lines service s.requests seed (nodes_of w) (next_of service w line) rest) of.seed
-    (subst (λ (requests : List Request). after_lines service requests w.seed (nodes_of w) (world_of service w) left ≡ after_lines service requests w.seed (nodes_of w) (next_of service w line) rest) of.requests
+    subst (λ n. after_lines service s.requests s.seed n (world_of service w) left ≡ after_lines service s.requests s.seed n (next_of service w line) rest) of.nodes
+    (subst (λ seed. after_lines service s.requests seed (nodes_of w) (world_of service w) left ≡ after_lines service s.requests seed (nodes_of w) (next_of service w line) rest) of.seed
+    (subst (λ requests. after_lines service requests w.seed (nodes_of w) (world_of service w) left ≡ after_lines service requests w.seed (nodes_of w) (next_of service w line) rest) of.requests
     (ap (after_lines service w.requests w.seed (nodes_of w) (world_of service w)) l)))
 
 -- so they lead on from the first world
@@ -24,4 +24,4 @@ pub leads_next : {S : Type 0} → (service : Declarations) {s : Scenario} (first
     → after_lines service s.requests s.seed s.nodes (world_of service w) left ≡ after_lines service s.requests s.seed s.nodes (world_of service first) s.schedule
     → after_lines service s.requests s.seed s.nodes (world_of service after) rest ≡ after_lines service s.requests s.seed s.nodes (world_of service first) s.schedule
 leads_next service {s} first {w} after {line} {rest} {left} of l e h =
-    ap (λ (x : ModelWorld). after_lines service s.requests s.seed s.nodes x rest) e ∙ sym (follow_next service of l) ∙ h
+    ap (λ x. after_lines service s.requests s.seed s.nodes x rest) e ∙ sym (follow_next service of l) ∙ h

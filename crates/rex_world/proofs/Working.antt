@@ -58,8 +58,8 @@ module _ {S : Type 0} (service : Declarations) (w : World S) (h : IsRunning serv
   works up =
       let d = spare w.nodes.items (omega (arith, there.0, there.1)) in
       let e : here ≡ here_at service w.agreed (slice_index_or w.nodes.items (m - 1) d) = here_is w.nodes.items there service w.agreed d in
-      subst (λ (x : Here). Works x.role x.work) (sym e)
-      (member_works (member_is w.nodes.items there service w.agreed d h.members) (subst (λ (x : Here). x.up ≡ true) e up))
+      subst (λ x. Works x.role x.work) (sym e)
+      (member_works (member_is w.nodes.items there service w.agreed d h.members) (subst (λ x. x.up ≡ true) e up))
 
   pub fit : values_fit service (known here.log) ≡ true
   fit = (next_fits service w.seed _ _ h.kept.world).known m there
@@ -74,10 +74,10 @@ module _ {S : Type 0} (service : Declarations) (w : World S) (h : IsRunning serv
   known_room : (lane : ℕ) → here.work.live ≡ [] → HasRoom lane here
   known_room lane none =
       let r = fit_run service _ fit in
-      let e : node_trace here ≡ trace_of (known here.log) = ap (λ (es : List Event). trace_of (known here.log) ++ es) none ∙ append-nil (trace_of (known here.log)) in
-      let s : live_state service here ≡ r.0 = ap (state_after service) e ∙ ap (λ (o : Option StateValue). unwrap_or o (start_of service)) r.1 in
+      let e : node_trace here ≡ trace_of (known here.log) = ap (λ es. trace_of (known here.log) ++ es) none ∙ append-nil (trace_of (known here.log)) in
+      let s : live_state service here ≡ r.0 = ap (state_after service) e ∙ ap (λ o. unwrap_or o (start_of service)) r.1 in
       let most = counts_are_few service _ r.0 lane (and_parts (list_all (spells service) (known here.log)) (runs service (trace_of (known here.log))) fit).0 r.1 in
-      subst (λ (t : StateValue). (lane_of t lane).done + 1 < 2 ^ 32) (sym s) (omega (arith, most, few))
+      subst (λ t. (lane_of t lane).done + 1 < 2 ^ 32) (sym s) (omega (arith, most, few))
 
   room_by : (lane : ℕ) → Works here.role here.work → HasRoom lane here
   room_by lane (inl a) = (kept_room service h.service_is h.checked w.seed _ _ h.kept m a.0 a.1 a.2 lane).room

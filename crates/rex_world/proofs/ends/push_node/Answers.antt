@@ -15,8 +15,8 @@ pub returns : goal.returns
 returns g c =
     let up : c.args.node.now.up ≡ true = sym c.is_up.ensures ∙ c.if-not-is_up.false in
     told_as _ _ _
-    (ap (λ (e : UpEnd). Up e) c.up_end_of.ensures ∙ sym (end_is _ c.requires up))
+    (ap (λ e. Up e) c.up_end_of.ensures ∙ sym (end_is _ c.requires up))
     c.declarations-service.ensures.whole
-    (c.variables.ensures ∙ ap (λ (s : StateValue). s.variables) (sym (shown_is _ c.requires up)))
-    (c.semaphores.ensures ∙ ap (λ (s : StateValue). s.semaphores) (sym (shown_is _ c.requires up)))
+    (c.variables.ensures ∙ ap (λ s. s.variables) (sym (shown_is _ c.requires up)))
+    (c.semaphores.ensures ∙ ap (λ s. s.semaphores) (sym (shown_is _ c.requires up)))
     c.push_end-2.ensures

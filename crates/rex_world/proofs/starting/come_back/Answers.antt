@@ -8,7 +8,7 @@ pub returns-clause-back : goal.returns-clause-back
 returns-clause-back g c =
     joined_back c.requires.member c.requires.up c.migrate.new.self _ c.in_ok-migrated.ensures.told c.in_ok-step.step _
     c.in_ok-step.ensures.effects c.joined.ensures.effects
-    (subst (λ (ms : List Message). IfOk c.joined.result (λ (step : Step). step.sends ≡ ms ++ c.in_ok-migrated.migrated.sends)) c.in_ok-step.ensures.sends c.joined.ensures.sends)
+    (subst (λ ms. IfOk c.joined.result (λ step. step.sends ≡ ms ++ c.in_ok-migrated.migrated.sends)) c.in_ok-step.ensures.sends c.joined.ensures.sends)
 
 pub returns-clause-stays : goal.returns-clause-stays
 returns-clause-stays g c =

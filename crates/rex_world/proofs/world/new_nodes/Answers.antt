@@ -27,7 +27,7 @@ loop-keeper-preserved g c =
     let steps : into_iter_items at.keeper-iterator ≡ c.in-Some.keeper ∷ into_iter_items c.next.new.self = c.in-Some.ensures.steps.0 in
     let longer = ap length steps in
     record {
-      new = subst (λ (ss : List Member). AreNew c.args.svc.now c.args.seed c.args.nodes (at.number + 1) ss) (sym c.in_ok-push.ensures.items)
+      new = subst (λ ss. AreNew c.args.svc.now c.args.seed c.args.nodes (at.number + 1) ss) (sym c.in_ok-push.ensures.items)
           (new_next at.invariant.new c.in_ok-node.ensures.here c.in_ok-node.ensures.member c.in_ok-node.ensures.within);
       left = omega (arith, longer, at.invariant.left);
       counted = omega (arith, longer, at.invariant.counted, c.in-Some.ensures.steps.1);

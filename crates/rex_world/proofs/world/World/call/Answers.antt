@@ -36,6 +36,6 @@ returns g c = record {
       c.in_ok-step.ensures.serves.tells
       (call_kept c.args.svc.now c.args.self.now c.requires.running c.args.node c.requires.there c.index_mut.ensures.value c.args.call.now c.requires.may)
       (call_released c.args.svc.now c.args.self.now c.requires.running c.args.node c.requires.there c.index_mut.ensures.value c.args.call.now c.requires.may)
-      (records_old c.args.svc.now c.args.self.now c.requires.running c.args.node c.requires.there c.index.ensures (c.len-count.ensures ∙ ap (λ (k : KeeperValue). length k.records) c.keeper.ensures)) t))
+      (records_old c.args.svc.now c.args.self.now c.requires.running c.args.node c.requires.there c.index.ensures (c.len-count.ensures ∙ ap (λ k. length k.records) c.keeper.ensures)) t))
       c.settle.ensures;
 }

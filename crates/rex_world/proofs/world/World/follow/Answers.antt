@@ -12,7 +12,7 @@ loop-line-preserved g c = record {
   of = still_of c.loop-line.invariant.of c.in_ok-effects.ensures.same;
   done = done_next c.args.svc.now c.loop-line.self c.step.new.self c.line-item.result c.in_ok-effects.ensures.world ∙ omega (arith, c.loop-line.invariant.done);
   world =
-      ap (λ (x : ModelWorld). after_lines c.args.svc.now c.args.scenario.now.requests c.args.scenario.now.seed c.args.scenario.now.nodes x (drop (c.loop-line.line-index + 1) c.args.scenario.now.schedule)) c.in_ok-effects.ensures.world
+      ap (λ x. after_lines c.args.svc.now c.args.scenario.now.requests c.args.scenario.now.seed c.args.scenario.now.nodes x (drop (c.loop-line.line-index + 1) c.args.scenario.now.schedule)) c.in_ok-effects.ensures.world
       ∙ sym (follow_next c.args.svc.now c.loop-line.invariant.of
       (drop_next c.as_slice-line-items.ensures c.loop-line-test.true c.line-item.is))
       ∙ c.loop-line.invariant.world;

@@ -32,4 +32,4 @@ returns-clause-running g c =
      i.handed in
     let e : c.loop-place.place ≡ c.len-count.result =
     omega (arith, c.loop-place-test.false, c.loop-place.auto.place-end, c.len-count.ensures, c.args.self.now.handed.ok.0, c.requires.running.flushed) in
-    record { service_is = i.running.service_is; checked = i.running.checked; whole = i.running.whole; few = i.running.few; kept = i.running.kept; agreed = i.running.agreed; told = i.running.told; members = i.running.members; within = i.running.within; spelled = i.running.spelled; requests = i.running.requests; clients = i.running.clients; flushed = omega (arith, e, f.0); handed = subst (λ (k : ℕ). list_all (λ (b : Bool). b) (take k c.loop-place.self.handed.items) ≡ true) e f.1 }
+    record { service_is = i.running.service_is; checked = i.running.checked; whole = i.running.whole; few = i.running.few; kept = i.running.kept; agreed = i.running.agreed; told = i.running.told; members = i.running.members; within = i.running.within; spelled = i.running.spelled; requests = i.running.requests; clients = i.running.clients; flushed = omega (arith, e, f.0); handed = subst (λ k. list_all (λ b. b) (take k c.loop-place.self.handed.items) ≡ true) e f.1 }

@@ -26,6 +26,6 @@ returns g c = record {
   comes =
       on_ok _
       (hand_came _ _ c.requires.running _ _ c.requires.sent c.mark.ensures _
-      (c.in_ok-push.ensures.items ∙ ap (λ (k : MessageKind). c.args.told.now.effects.items ++ Delivered c.args.number k c.args.message.now.from c.args.message.now.to ∷ []) (c.kind_of.ensures ∙ kind_alike _ _)) refl)
+      (c.in_ok-push.ensures.items ∙ ap (λ k. c.args.told.now.effects.items ++ Delivered c.args.number k c.args.message.now.from c.args.message.now.to ∷ []) (c.kind_of.ensures ∙ kind_alike _ _)) refl)
       c.call.ensures.comes;
 }

@@ -26,20 +26,20 @@ returns-in_err-effects-clause-front g c =
 
 pub returns-in_err-write-clause-front : goal.returns-in_err-write-clause-front
 returns-in_err-write-clause-front g c =
-    let told = ap (λ (n : ℕ). c.loop-line.waiting.items ++ effects_text c.args.svc.now n c.as_slice.result.now) (done_next c.args.svc.now c.loop-line.self c.step.new.self c.line-item.result c.in_ok-effects.ensures.world)
-    ∙ ap (λ (es : List Effect). c.loop-line.waiting.items ++ effects_text c.args.svc.now (c.loop-line.self.done + 1) es) (c.as_slice.ensures ∙ c.in_ok-effects.ensures.effects) in
+    let told = ap (λ n. c.loop-line.waiting.items ++ effects_text c.args.svc.now n c.as_slice.result.now) (done_next c.args.svc.now c.loop-line.self c.step.new.self c.line-item.result c.in_ok-effects.ensures.world)
+    ∙ ap (λ es. c.loop-line.waiting.items ++ effects_text c.args.svc.now (c.loop-line.self.done + 1) es) (c.as_slice.ensures ∙ c.in_ok-effects.ensures.effects) in
     front_next (g.K.Sink.taken c.write.new.sink)
     (effects_text c.args.svc.now (c.loop-line.self.done + 1) (row c.args.svc.now c.loop-line.self.requests c.loop-line.self.seed (nodes_of c.loop-line.self) (world_of c.args.svc.now c.loop-line.self) c.line-item.result).effects)
     (report_from c.args.svc.now c.args.scenario.now.requests c.args.scenario.now.seed c.args.scenario.now.nodes (next_of c.args.svc.now c.loop-line.self c.line-item.result) (drop (c.loop-line.line-index + 1) c.args.scenario.now.schedule))
     c.loop-line.invariant.written
     (report_next c.args.svc.now c.loop-line.invariant.of
     (drop_next c.as_slice-line-items.ensures c.loop-line-test.true c.line-item.is))
-    (subst (λ (ws : List ℕ). GrowsByFront (g.K.Sink.taken c.loop-line.sink) (g.K.Sink.taken c.write.new.sink) ws) told c.in_err-write.ensures.front)
+    (subst (λ ws. GrowsByFront (g.K.Sink.taken c.loop-line.sink) (g.K.Sink.taken c.write.new.sink) ws) told c.in_err-write.ensures.front)
 
 pub loop-line-preserved : goal.loop-line-preserved
 loop-line-preserved g c =
-    let told = ap (λ (n : ℕ). c.loop-line.waiting.items ++ effects_text c.args.svc.now n c.as_slice.result.now) (done_next c.args.svc.now c.loop-line.self c.step.new.self c.line-item.result c.in_ok-effects.ensures.world)
-    ∙ ap (λ (es : List Effect). c.loop-line.waiting.items ++ effects_text c.args.svc.now (c.loop-line.self.done + 1) es) (c.as_slice.ensures ∙ c.in_ok-effects.ensures.effects) in
+    let told = ap (λ n. c.loop-line.waiting.items ++ effects_text c.args.svc.now n c.as_slice.result.now) (done_next c.args.svc.now c.loop-line.self c.step.new.self c.line-item.result c.in_ok-effects.ensures.world)
+    ∙ ap (λ es. c.loop-line.waiting.items ++ effects_text c.args.svc.now (c.loop-line.self.done + 1) es) (c.as_slice.ensures ∙ c.in_ok-effects.ensures.effects) in
     let still = c.in_ok-write.ensures.same in
     let world = ap (world_of c.args.svc.now) still ∙ c.in_ok-effects.ensures.world in
     let same : IsSame c.loop-line.self c.write.new.self = subst (IsSame c.loop-line.self) (sym still) c.in_ok-effects.ensures.same in
@@ -52,7 +52,7 @@ loop-line-preserved g c =
           world c.loop-line.invariant.world;
       same = same_both c.loop-line.invariant.same same;
       written =
-          subst (λ (x : ModelWorld). IsWritten (g.K.Sink.taken c.args.sink.now) (g.K.Sink.taken c.write.new.sink) c.write.new.waiting.items (report_from c.args.svc.now c.args.scenario.now.requests c.args.scenario.now.seed c.args.scenario.now.nodes x (drop (c.loop-line.line-index + 1) c.args.scenario.now.schedule)) (report_from c.args.svc.now c.args.scenario.now.requests c.args.scenario.now.seed c.args.scenario.now.nodes (world_of c.args.svc.now c.args.self.now) c.args.scenario.now.schedule))
+          subst (λ x. IsWritten (g.K.Sink.taken c.args.sink.now) (g.K.Sink.taken c.write.new.sink) c.write.new.waiting.items (report_from c.args.svc.now c.args.scenario.now.requests c.args.scenario.now.seed c.args.scenario.now.nodes x (drop (c.loop-line.line-index + 1) c.args.scenario.now.schedule)) (report_from c.args.svc.now c.args.scenario.now.requests c.args.scenario.now.seed c.args.scenario.now.nodes (world_of c.args.svc.now c.args.self.now) c.args.scenario.now.schedule))
           (sym world)
           (written_next (g.K.Sink.taken c.write.new.sink)
           (effects_text c.args.svc.now (c.loop-line.self.done + 1) (row c.args.svc.now c.loop-line.self.requests c.loop-line.self.seed (nodes_of c.loop-line.self) (world_of c.args.svc.now c.loop-line.self) c.line-item.result).effects)
@@ -85,7 +85,7 @@ returns-clause-front g c =
 pub returns-clause-leads : goal.returns-clause-leads
 returns-clause-leads g c =
     on_ok_weaker c.write_ends.result
-    (λ (still : c.write_ends.new.self ≡ c.loop-line.self).
+    (λ still.
     record {
       world =
           ap (world_of c.args.svc.now) still
@@ -94,6 +94,6 @@ returns-clause-leads g c =
           ∙ c.loop-line.invariant.world;
       running = subst (IsRunning c.args.svc.now) (sym still) c.loop-line.invariant.running;
       same = subst (IsSame c.args.self.now) (sym still) c.loop-line.invariant.same;
-      done = ap (λ (w : World _). w.done) still ∙ c.loop-line.invariant.done ∙ ap (λ (n : ℕ). c.args.self.now.done + n) (omega (arith, c.loop-line-test.false, c.loop-line.auto.line-index-end, ap length c.as_slice-line-items.ensures));
+      done = ap (λ w. w.done) still ∙ c.loop-line.invariant.done ∙ ap (λ n. c.args.self.now.done + n) (omega (arith, c.loop-line-test.false, c.loop-line.auto.line-index-end, ap length c.as_slice-line-items.ensures));
     })
     c.write_ends.ensures.same

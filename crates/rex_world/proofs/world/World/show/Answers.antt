@@ -14,11 +14,11 @@ show-requires-clause-member g c = member_so _ c.requires.there _ _ c.index.ensur
 
 pub show-requires-clause-releases : goal.show-requires-clause-releases
 show-requires-clause-releases g c =
-    subst (λ (x : Here). AreReleased x c.args.effects.now) (here_so _ c.requires.there _ _ c.index.ensures) c.requires.releases
+    subst (λ x. AreReleased x c.args.effects.now) (here_so _ c.requires.there _ _ c.index.ensures) c.requires.releases
 
 pub returns-clause-seen : goal.returns-clause-seen
 returns-clause-seen g c =
     let is = c.in_ok-show.ensures ∙ ap (seen_by_releases (stamp_at (here_at c.args.svc.now c.args.self.now.agreed c.index.result.now)) c.args.effects.now) c.deref_mut.ensures.value in
     with_items_is c.args.self.now.seen c.show.new.seen (ap length is ∙ releases_long (stamp_at (here_at c.args.svc.now c.args.self.now.agreed c.index.result.now)) c.args.effects.now _ ∙ sym c.args.self.now.seen.ok.0)
     ∙ is
-    ∙ ap (λ (x : Here). seen_by_releases (stamp_at x) c.args.effects.now c.args.self.now.seen.items) (sym (here_so _ c.requires.there _ _ c.index.ensures))
+    ∙ ap (λ x. seen_by_releases (stamp_at x) c.args.effects.now c.args.self.now.seen.items) (sym (here_so _ c.requires.there _ _ c.index.ensures))

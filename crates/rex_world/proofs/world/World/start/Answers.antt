@@ -32,6 +32,6 @@ returns g c = record {
       (still_own c.args.svc.now c.args.self.now c.requires.running c.args.node c.requires.there c.index_mut.ensures.value c.in_ok-step.ensures.stays)
       (none_told c.args.svc.now c.args.self.now.agreed c.in_ok-step.ensures.quiet)
       (start_kept c.args.svc.now c.args.self.now c.requires.running c.args.node c.requires.there) (start_released c.args.svc.now c.args.self.now c.requires.running c.args.node c.requires.there)
-      (records_old c.args.svc.now c.args.self.now c.requires.running c.args.node c.requires.there c.index.ensures (c.len-count.ensures ∙ ap (λ (k : KeeperValue). length k.records) c.keeper.ensures)) t))
+      (records_old c.args.svc.now c.args.self.now c.requires.running c.args.node c.requires.there c.index.ensures (c.len-count.ensures ∙ ap (λ k. length k.records) c.keeper.ensures)) t))
       c.settle.ensures;
 }

@@ -15,7 +15,7 @@ take_block_at-taken-requires-clause-member g c = own_old _ _ c.requires.running 
 
 pub take_block_at-taken-requires-clause-runs : goal.take_block_at-taken-requires-clause-runs
 take_block_at-taken-requires-clause-runs g c =
-    subst (λ (x : Here). x.up ≡ true → run c.args.svc.now (live_state c.args.svc.now x) c.args.events.now ≡ Some c.args.state) (here_old _ _ c.requires.running _ c.requires.there c.index_mut-member.ensures.value) c.requires.runs
+    subst (λ x. x.up ≡ true → run c.args.svc.now (live_state c.args.svc.now x) c.args.events.now ≡ Some c.args.state) (here_old _ _ c.requires.running _ c.requires.there c.index_mut-member.ensures.value) c.requires.runs
 
 pub returns-clause-refused : goal.returns-clause-refused
 returns-clause-refused g c = block_refused c.requires.running c.requires.there (with_item c.args.self.now.nodes (c.args.node - 1) c.take_block_at-taken.new.node) c.index_mut-member.ensures.value refl (still_own c.args.svc.now c.args.self.now c.requires.running c.args.node c.requires.there c.index_mut-member.ensures.value c.take_block_at-taken.ensures.stays) c.args.events.now c.take_block_at-taken.ensures.handed
@@ -31,5 +31,5 @@ returns-clause-same g c = given_same c.requires.running c.requires.there _ c.ind
 
 pub returns-clause-running : goal.returns-clause-running
 returns-clause-running g c = λ whole.
-    subst (λ (b : Bool). let w : World _ = record c.args.self.now { nodes = with_item c.args.self.now.nodes (c.args.node - 1) c.take_block_at-taken.new.node; broken = b } in IsRunning c.args.svc.now w) (c.requires.running.whole ∙ sym (c.is_short-self.ensures.whole whole))
+    subst (λ b. let w : World _ = record c.args.self.now { nodes = with_item c.args.self.now.nodes (c.args.node - 1) c.take_block_at-taken.new.node; broken = b } in IsRunning c.args.svc.now w) (c.requires.running.whole ∙ sym (c.is_short-self.ensures.whole whole))
     (block_running c.requires.running c.requires.there _ c.index_mut-member.ensures.value refl (still_own _ _ c.requires.running _ c.requires.there c.index_mut-member.ensures.value c.take_block_at-taken.ensures.stays) _ c.requires.begins _ c.take_block_at-taken.ensures.handed)

@@ -14,7 +14,7 @@ take_event_at-turn-requires-clause-member g c = own_old _ _ c.requires.running _
 
 pub take_event_at-turn-requires-clause-count : goal.take_event_at-turn-requires-clause-count
 take_event_at-turn-requires-clause-count g c =
-    subst (λ (x : Here). x.up ≡ true → (lane_of (live_state c.args.svc.now x) c.args.event.now.lane).done + 1 < 2 ^ 32) (here_old _ _ c.requires.running _ c.requires.there c.index_mut-member.ensures.value)
+    subst (λ x. x.up ≡ true → (lane_of (live_state c.args.svc.now x) c.args.event.now.lane).done + 1 < 2 ^ 32) (here_old _ _ c.requires.running _ c.requires.there c.index_mut-member.ensures.value)
     (room _ _ c.requires.running _ c.requires.there _)
 
 pub returns-clause-refused : goal.returns-clause-refused
@@ -34,5 +34,5 @@ returns-clause-same g c = given_same c.requires.running c.requires.there _ c.ind
 
 pub returns-clause-running : goal.returns-clause-running
 returns-clause-running g c = λ whole.
-    subst (λ (b : Bool). let w : World _ = record c.args.self.now { nodes = with_item c.args.self.now.nodes (c.args.node - 1) c.take_event_at-turn.new.node; broken = b } in IsRunning c.args.svc.now w) (c.requires.running.whole ∙ sym (c.is_short-self.ensures.whole whole))
+    subst (λ b. let w : World _ = record c.args.self.now { nodes = with_item c.args.self.now.nodes (c.args.node - 1) c.take_event_at-turn.new.node; broken = b } in IsRunning c.args.svc.now w) (c.requires.running.whole ∙ sym (c.is_short-self.ensures.whole whole))
     (taken_running c.requires.running c.requires.there _ c.index_mut-member.ensures.value refl (still_own _ _ c.requires.running _ c.requires.there c.index_mut-member.ensures.value c.take_event_at-turn.ensures.stays) _ c.requires.begins _ c.take_event_at-turn.ensures.handed)
