@@ -2,7 +2,6 @@
 use Rattle.std.proofs.Common.{arith, ◌≡◌, ℕ, ◌≤◌, max, Bool, true, false, List, Option, Some, None, refl, sym, ap, ◌∙◌}
 use Rattle.std.specs.Prelude.{ℤ, drop, is_some, take}
 use Rattle.rex_syntax.specs.declared.service.Declarations.{Declarations}
-use Rattle.rex_state.specs.Value.{StateValue}
 use Rattle.rex_reads.specs.Reads.{answered}
 use Rattle.rex_cluster.specs.Records.{known}
 use Rattle.rex_cluster.specs.Node.{is_active}

@@ -8,13 +8,11 @@ use Rattle.rex_syntax.specs.Check.{IsChecked}
 use Rattle.rex_state.specs.Sound.{IsSound}
 use Rattle.rex_state.proofs.Sounds.{run_keeps, start_keeps}
 use Rattle.rex_snapshot.specs.Spelling.{IsLimited}
-use Rattle.rex_msg.specs.declared.message.Message.{Message}
 use Rattle.rex_msg.specs.declared.message.Content.{Content}
 use Rattle.rex_state.specs.Start.{start_of}
 use Rattle.rex_state.specs.Machine.{run}
 use Rattle.rex_msg.specs.declared.message.Content.TheVariants as sent
 use Rattle.rex_cluster.specs.Records.{base, known}
-use Rattle.rex_cluster.specs.Node as model
 use Rattle.rex_cluster.specs.Node.Content.{Snapshot}
 use Rattle.rex_cluster.specs.Calls.{answer, answer_base, send}
 use Rattle.rex_cluster.specs.Invariant.{Begins}

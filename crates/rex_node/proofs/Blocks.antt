@@ -3,11 +3,9 @@ use Rattle.std.proofs.Common.{◌≡◌, ℕ, List, [], ◌∷◌, length, Optio
 use Rattle.rex_syntax.specs.declared.service.Declarations.{Declarations}
 use Rattle.rex_syntax.specs.Service.{IsService}
 use Rattle.rex_event.specs.declared.event.Event.{Event}
-use Rattle.rex_record.specs.declared.turns.Turn.{Turn}
 use Rattle.rex_record.specs.Take.{taken_turn}
 use Rattle.rex_record.proofs.Takes.{taken_keeps}
 use Rattle.rex_cluster.specs.Calls.{begin}
-use Rattle.rex_cluster.specs.Lanes.{Here}
 use Rattle.rex_cluster.specs.Takes as takes
 use Rattle.rex_node.specs.declared.refusal.Refusal.{Refusal}
 use Rattle.rex_node.specs.Blocks.{take_each, given_all}

@@ -41,7 +41,7 @@ use Rattle.rex_node.specs.Calls.{armed_with}
 use Rattle.rex_node.specs.Electing.{counting, reports_of, told_of, uncounting, vote_on}
 use Rattle.rex_node.specs.Going.{BreaksOff, Ends, IsStuck, Leads, RunsOn, above, so_far}
 use Rattle.rex_node.specs.Leading.{IsFree}
-use Rattle.rex_log.specs.Log.{log_of, proposal_in}
+use Rattle.rex_log.specs.Log.{proposal_in}
 use Rattle.rex_node.specs.Parts.{NodeValue, ActingValue, HasGoneOn, HasOpen, IsActing, IsKept, IsResting, IsProposer, IsUp, Proposes, RunsShort, Stands, here_of, lead_of, open_of, role_of}
 use Rattle.rex_node.proofs.Appended.{Beside, ballot_fits, beside_of, instance_fits, logged_of, up_of}
 use Rattle.rex_node.proofs.Bridges.{in_counted, majority_is}

@@ -1,6 +1,6 @@
 -- A node that forgets the values up to its base does as the model's.
 use Rattle.std.proofs.Common.{◌≡◌, ℕ, suc, ◌-◌, ◌<◌, ◌≤◌, Bool, true, false, cond, eqb, leb, ltb, List, [], ◌∷◌, ◌++◌, length, take, drop, Option, Some, None, refl, sym, ap, subst, ◌∙◌, arith, length-append}
-use Rattle.std.specs.Prelude.{map, is_some, option_map, if◌then◌else◌}
+use Rattle.std.specs.Prelude.{map, option_map, if◌then◌else◌}
 use Rattle.std.proofs.lemmas.Bool.{eqb-true, leb-true, leb-false, lt-ltb, ne_eqb}
 use Rattle.std.proofs.lemmas.List.{take-append-drop, take-append-le}
 use Rattle.std.proofs.lemmas.List.Elements.{All-filter}
@@ -13,18 +13,17 @@ use Rattle.rex_syntax.specs.declared.service.Declarations.{Declarations}
 use Rattle.rex_state.specs.Value.{StateValue}
 use Rattle.rex_durable.specs.declared.records.Rec.TheVariants as kept
 use Rattle.rex_durable.specs.Spelling.{HasSpelling, IsDue, record_bytes}
-use Rattle.rex_report.specs.declared.effect.Effect.{Effect}
 use Rattle.rex_report.specs.declared.effect.Effect.TheVariants as effect
 use Rattle.rex_traits.specs.Chains.{Answer}
-use Rattle.rex_cluster.specs.Records.{Rec, Proposal, base, from_on, known, last_accepted, offset}
+use Rattle.rex_cluster.specs.Records.{Rec, Proposal, base, from_on, known, offset}
 use Rattle.rex_cluster.specs.Records.Rec.{Dropped}
-use Rattle.rex_cluster.specs.Node.{Failure, Role}
+use Rattle.rex_cluster.specs.Node.{Failure}
 use Rattle.rex_cluster.specs.Node.Role.{Leads}
 use Rattle.rex_cluster.specs.Ranges.{RoleFits}
 use Rattle.rex_cluster.specs.Calls.{append, drop_known, say}
 use Rattle.rex_cluster.specs.Invariant.{Begins}
 use Rattle.rex_cluster.specs.Values.{Value}
-use Rattle.rex_cluster.specs.Lanes.{CallHere, Here}
+use Rattle.rex_cluster.specs.Lanes.{CallHere}
 use Rattle.rex_log.specs.Log.{log_of, proposal_in, standing_in}
 use Rattle.rex_log.specs.Messages.{message_in}
 use Rattle.rex_log.proofs.Accepting.{above_from}

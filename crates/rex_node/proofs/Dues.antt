@@ -5,7 +5,6 @@ use Rattle.rex_syntax.specs.declared.service.Declarations.{Declarations}
 use Rattle.rex_event.specs.declared.event.Event.{Event}
 use Rattle.rex_event.specs.Cuts.{below}
 use Rattle.rex_cut.specs.Greatest.{greatest_cut}
-use Rattle.rex_state.specs.Value.{StateValue}
 use Rattle.rex_state.specs.Counts.{counts_of}
 use Rattle.rex_cluster.specs.Records.{known}
 use Rattle.rex_cluster.specs.Values.{Value, trace_of, state_after}
@@ -14,7 +13,7 @@ use Rattle.rex_node.specs.declared.pieces.Piece.{Piece}
 use Rattle.rex_node.specs.declared.refusal.Refusal.{Refusal}
 use Rattle.rex_node.specs.declared.refusal.Refusal.TheVariants as why
 use Rattle.rex_node.specs.Calls.{CanBeCut, CutIsSpelled, RefusesThen, counts_for, refusal_of_none}
-use Rattle.rex_node.specs.Cutting.{CanMakePiece, MakesPiece, MakesPieceOf, counts_in, cut_in}
+use Rattle.rex_node.specs.Cutting.{CanMakePiece, MakesPiece, MakesPieceOf, counts_in}
 use Rattle.rex_node.specs.Parts.{ActingValue, NodeValue, Executes, IsResting, IsUp, here_of, work_of}
 use Rattle.rex_node.proofs.Executing.{executes, live_state_is, start_is}
 

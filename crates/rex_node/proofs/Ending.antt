@@ -12,7 +12,7 @@ use Rattle.rex_report.specs.declared.effect.Effect.{Effect}
 use Rattle.rex_report.specs.declared.effect.Effect.TheVariants as effect
 use Rattle.rex_traits.specs.Chains.{Answer, AppendsInTurn}
 use Rattle.rex_traits.specs.declared.keeper.KeepFault.TheVariants.{Failed}
-use Rattle.rex_cluster.specs.Node.{Failure, down_node}
+use Rattle.rex_cluster.specs.Node.{down_node}
 use Rattle.rex_cluster.specs.Node.Failure.{After}
 use Rattle.rex_cluster.specs.Releases.{IsAmong}
 use Rattle.rex_cluster.specs.Calls.{begin}

@@ -9,8 +9,6 @@ use Rattle.rex_syntax.specs.declared.request.Request.{Request}
 use Rattle.rex_syntax.specs.declared.service.Declarations.{Declarations}
 use Rattle.rex_syntax.specs.Service.{IsService}
 use Rattle.rex_event.specs.declared.event.Event.{Event}
-use Rattle.rex_state.specs.declared.lane.Entry.{Entry}
-use Rattle.rex_state.specs.Value.{StateValue}
 use Rattle.rex_state.specs.Start.{start_of}
 use Rattle.rex_state.specs.Machine.{entry_at}
 use Rattle.rex_state.proofs.Run.{run-then}

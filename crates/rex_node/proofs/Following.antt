@@ -1,5 +1,5 @@
 -- What a node is that leaves its role, with a record more or none.
-use Rattle.std.proofs.Common.{◌≡◌, ℕ, suc, ◌<◌, ◌≤◌, Bool, true, List, [], ◌∷◌, ◌++◌, length, take, Option, Some, None, refl, sym, ap, subst, ◌∙◌, arith, le_trans}
+use Rattle.std.proofs.Common.{◌≡◌, ℕ, suc, ◌<◌, ◌≤◌, true, List, [], ◌∷◌, ◌++◌, length, take, Option, Some, None, refl, sym, ap, subst, ◌∙◌, arith, le_trans}
 use Rattle.std.specs.Prelude.{map, is_some, option_map, if◌then◌else◌}
 use Rattle.std.proofs.lemmas.Bool.{lt-ltb, le-ltb, ne_eqb, false≢true}
 use Rattle.std.proofs.lemmas.Option.{same_Some}
@@ -15,7 +15,7 @@ use Rattle.rex_report.specs.declared.effect.Effect.TheVariants.{IgnoredBallot, I
 use Rattle.rex_traits.specs.Chains.{Answer}
 use Rattle.rex_cluster.specs.Records.{Rec, base, known}
 use Rattle.rex_cluster.specs.Records.Rec.{Known}
-use Rattle.rex_cluster.specs.Node.{Failure, Message, Work, no_work}
+use Rattle.rex_cluster.specs.Node.{Failure, Message, no_work}
 use Rattle.rex_cluster.specs.Node.Role.{Follower}
 use Rattle.rex_cluster.specs.Calls.{say, follow, followed, logged, work_left, replayed_left, with_role, append, on_chosen, on_nack}
 use Rattle.rex_cluster.specs.Values.{Value, trace_of}

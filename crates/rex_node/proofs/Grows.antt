@@ -1,21 +1,19 @@
 -- What a node knew before a call begins what it knows after it.
-use Rattle.std.proofs.Common.{◌≡◌, ℕ, zero, suc, Bool, true, false, cond, List, [], ◌∷◌, ◌++◌, length, Option, Some, None, refl, sym, ap, subst, ◌∙◌, append-nil, append_assoc}
+use Rattle.std.proofs.Common.{◌≡◌, ℕ, zero, suc, Bool, true, false, cond, List, [], ◌∷◌, ◌++◌, Option, Some, None, refl, sym, ap, subst, ◌∙◌, append-nil, append_assoc}
 use Rattle.rex_report.specs.declared.effect.Effect.{Effect}
-use Rattle.rex_report.specs.declared.effect.Effect.TheVariants as effect
 use Rattle.rex_syntax.specs.declared.service.Declarations.{Declarations}
 use Rattle.rex_syntax.specs.Service.{IsService}
 use Rattle.rex_syntax.specs.Check.{IsChecked}
 use Rattle.rex_traits.specs.Chains.{Answer}
 use Rattle.rex_cluster.specs.Records.{Rec, Proposal, known}
 use Rattle.rex_cluster.specs.Records.Rec.{Promised, Accepted, Known, Checkpoint, Dropped, Transferred}
-use Rattle.rex_cluster.specs.Quorum.{is_majority}
 use Rattle.rex_cluster.specs.Node.{Service, Lead, Role, Failure}
 use Rattle.rex_cluster.specs.Node.Failure.{After}
 use Rattle.rex_cluster.specs.Node.Role.{Follower, Leads}
 use Rattle.rex_cluster.specs.Invariant.{Begins}
 use Rattle.rex_cluster.specs.Values.{Value, values_fit}
 use Rattle.rex_cluster.specs.Lanes.{CallHere}
-use Rattle.rex_cluster.specs.Calls.{Call, append, logged, propose, decide, best, choose, lead, turn, settle}
+use Rattle.rex_cluster.specs.Calls.{Call, append, logged, propose, decide, choose, lead, turn, settle}
 use Rattle.rex_cluster.proofs.Grow.{begins_trans, begins_same}
 use Rattle.rex_cluster.proofs.Acting.{fits_front}
 use Rattle.rex_node.specs.declared.step.Draft.{Draft}

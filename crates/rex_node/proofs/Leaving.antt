@@ -1,6 +1,6 @@
 -- A node that leaves its role.
-use Rattle.std.proofs.Common.{◌≡◌, ℕ, ◌≤◌, Bool, List, Option, Some, None, refl, sym, ap, subst, ◌∙◌, arith}
-use Rattle.std.specs.Prelude.{take, length, is_some}
+use Rattle.std.proofs.Common.{◌≡◌, ℕ, ◌≤◌, List, Option, Some, None, refl, sym, ap, subst, ◌∙◌, arith}
+use Rattle.std.specs.Prelude.{take, is_some}
 use Rattle.std.proofs.lemmas.Bool.{false≢true}
 use Rattle.rex_syntax.specs.declared.service.Declarations.{Declarations}
 use Rattle.rex_state.specs.Value.{StateValue}
@@ -8,8 +8,8 @@ use Rattle.rex_state.specs.Start.{start_of}
 use Rattle.rex_state.specs.Machine.{run}
 use Rattle.rex_paxos.specs.Acceptor.{AcceptorValue}
 use Rattle.rex_paxos.specs.Proposer.{ProposerValue}
-use Rattle.rex_cluster.specs.Records.{known, base}
-use Rattle.rex_cluster.specs.Node.{Work, no_work, is_active}
+use Rattle.rex_cluster.specs.Records.{base}
+use Rattle.rex_cluster.specs.Node.{no_work, is_active}
 use Rattle.rex_cluster.specs.Node.Role.{Follower}
 use Rattle.rex_cluster.specs.Calls.{begin, work_left, replayed_left, with_role}
 use Rattle.rex_cluster.specs.Values.{Value, trace_of}

@@ -9,9 +9,7 @@ use Rattle.rex_ballot.specs.Limits.{most_nodes}
 use Rattle.rex_ballot.specs.declared.proposal.Proposal.{Proposal as Kept}
 use Rattle.rex_ballot.specs.Ballot as ballots
 use Rattle.rex_ballot.specs.Proposals.{IsValue, proposal_for}
-use Rattle.rex_paxos.specs.declared.answers.Vote.{Vote}
 use Rattle.rex_paxos.specs.declared.answers.Vote.TheVariants as vote
-use Rattle.rex_paxos.specs.declared.answers.Why.{Why}
 use Rattle.rex_paxos.specs.declared.answers.Count.TheVariants as count
 use Rattle.rex_paxos.specs.Counting as counting
 use Rattle.rex_paxos.specs.Proposer.{ProposerValue, acceptance_refusal, acceptance_vote, closed, is_candidate, voted}
@@ -20,7 +18,7 @@ use Rattle.rex_syntax.specs.Service.{IsService}
 use Rattle.rex_syntax.specs.Check.{IsChecked}
 use Rattle.rex_state.specs.Value.{StateValue}
 use Rattle.rex_traits.specs.Chains.{Answer}
-use Rattle.rex_cluster.specs.Records.{Proposal, known}
+use Rattle.rex_cluster.specs.Records.{known}
 use Rattle.rex_cluster.specs.Records.Rec.{Known}
 use Rattle.rex_cluster.specs.Node.{Lead, Service}
 use Rattle.rex_cluster.specs.Node.Role.{Leads as Leading}
@@ -37,7 +35,6 @@ use Rattle.rex_node.specs.declared.step.Draft.{Draft}
 use Rattle.rex_node.specs.Electing.{acceptance_vote_on, reports_of}
 use Rattle.rex_log.specs.Log.{proposal_in}
 use Rattle.rex_node.specs.Parts.{NodeValue, ActingValue, HasDecoded, HasGoneOn, IsActing, IsCutAt, IsKept, IsResting, IsProposer, IsSame, IsUp, OpenIsCut, Proposes, here_of, lead_of, open_of, role_of, IsDown}
-use Rattle.rex_node.specs.Calls.{armed_with}
 use Rattle.rex_node.specs.Going.{BreaksOff, Comes, Ends, IsStuck, Leads, LosesFirst, MayGoOn, RunsOn, above, so_far}
 use Rattle.rex_node.specs.Leading.{IsFree, IsOwnCut, Learns, LearnsShort, knowing, replayed_to, settling}
 use Rattle.rex_node.proofs.Adopting.{decide_led}

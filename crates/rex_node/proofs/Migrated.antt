@@ -5,7 +5,6 @@ use Rattle.rex_state.specs.Value.{StateValue}
 use Rattle.rex_syntax.specs.declared.version.Version.TheVariants.{Two}
 use Rattle.rex_durable.specs.declared.records.Rec.{Rec as KeptRec}
 use Rattle.rex_durable.specs.declared.records.Rec.TheVariants as kept
-use Rattle.rex_durable.specs.declared.records.Standing.{Standing}
 use Rattle.rex_durable.specs.declared.recovery.Recovered.{Recovered}
 use Rattle.rex_durable.specs.Recovery.{after, recovered}
 use Rattle.rex_durable.specs.Kept.{Spell}

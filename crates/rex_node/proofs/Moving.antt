@@ -1,6 +1,6 @@
 -- A node takes over the state after so many values, of which it knows fewer.
 use Rattle.std.proofs.Common.{◌≡◌, ℕ, suc, ◌+◌, ◌<◌, ◌≤◌, Bool, true, false, cond, leb, List, [], ◌∷◌, ◌++◌, length, Ok, Option, Some, None, inl, inr, refl, sym, ap, subst, ◌∙◌, arith, le_refl}
-use Rattle.std.specs.Prelude.{map, is_ok, is_some, nat_lt, Result, if◌then◌else◌}
+use Rattle.std.specs.Prelude.{map, is_ok, is_some, nat_lt, if◌then◌else◌}
 use Rattle.std.proofs.lemmas.Bool.{false≢true, leb-true, leb-false, le-leb, le-ltb, lt-ltb, lt-leb}
 use Rattle.std.proofs.lemmas.List.{append-nil, take_all}
 use Rattle.std.proofs.lemmas.List.Elements.{All-filter}
@@ -20,7 +20,7 @@ use Rattle.rex_durable.specs.declared.records.Rec.TheVariants as kept
 use Rattle.rex_durable.specs.Spelling.{HasSpelling, IsDue, record_bytes}
 use Rattle.rex_report.specs.declared.effect.Effect.{Effect}
 use Rattle.rex_report.specs.declared.effect.Effect.TheVariants as effect
-use Rattle.rex_cluster.specs.Records.{Rec, Proposal, base, known, last_accepted, offset, from_on}
+use Rattle.rex_cluster.specs.Records.{Rec, Proposal, base, known, last_accepted, from_on}
 use Rattle.rex_cluster.specs.Records.Rec.{Transferred}
 use Rattle.rex_cluster.specs.Node.{Failure, Message, Work, down_node, is_active, no_work}
 use Rattle.rex_cluster.specs.Calls.{append, follow, followed, logged, on_snapshot, replayed_left, say, with_replayed, work_left}

@@ -20,9 +20,8 @@ use Rattle.rex_durable.specs.declared.records.Rec.TheVariants as kept
 use Rattle.rex_durable.specs.Spelling.{HasSpelling, record_bytes}
 use Rattle.rex_report.specs.declared.effect.Effect.{Effect}
 use Rattle.rex_report.specs.declared.effect.Effect.TheVariants as effect
-use Rattle.rex_msg.specs.declared.message.Message.{Message as Sent}
 use Rattle.rex_msg.specs.declared.message.Content.TheVariants as sent
-use Rattle.rex_cluster.specs.Records.{Rec, Proposal, proposal_of, offset, known}
+use Rattle.rex_cluster.specs.Records.{Rec, Proposal, proposal_of, offset}
 use Rattle.rex_cluster.specs.Records.Rec.{Accepted}
 use Rattle.rex_cluster.specs.Node.{Failure}
 use Rattle.rex_cluster.specs.Node.Role.{Leads as Leading}
@@ -37,7 +36,7 @@ use Rattle.rex_node.specs.declared.going.Going.TheVariants.{On, Down}
 use Rattle.rex_node.specs.declared.step.Draft.{Draft}
 use Rattle.rex_log.specs.Messages.{content_in, message_in}
 use Rattle.rex_log.specs.Log.{log_of, proposal_in}
-use Rattle.rex_node.specs.Parts.{NodeValue, ActingValue, ActsFor, IsActing, IsProposer, Proposes, IsCutAt, IsUp, IsKept, HasOpen, OpenIsCut, AreShort, Keeps, Falls, here_of, lead_of, open_of, role_of, work_of, HasDecoded, HasReached}
+use Rattle.rex_node.specs.Parts.{NodeValue, ActingValue, ActsFor, IsActing, IsProposer, Proposes, IsCutAt, IsUp, IsKept, HasOpen, OpenIsCut, AreShort, Keeps, Falls, here_of, lead_of, open_of, role_of, HasDecoded, HasReached}
 use Rattle.rex_node.specs.Calls.{armed_with}
 use Rattle.rex_node.specs.Going.{Appends, BreaksOff, Comes, LosesFirst, so_far}
 use Rattle.rex_node.specs.Leading.{FromLead, IsOwnCut, Opens, OpensShort, accept_own, opened}
@@ -221,7 +220,7 @@ module _ {K : Type 0} (records : K → List (List ℕ)) (gives : K → List ℕ 
         leads_then records gives faults service
             (written_on records gives faults past u spelled tt refl y before (λ d. k (send (say told (led (leading (lead_of x.acceptor p (is_some x.acting)) (Some (proposal_of p.ballot i v)) (x.id ∷ []) (is_some x.acting)) d)) (others x.nodes x.id (Accept p.ballot i v)))) (λ f. refl) h)
             (leads_same records gives faults service
-             (ap length (log_is y.keeper h.records))
+            (ap length (log_is y.keeper h.records))
             (λ f. z_comes y.keeper h.records told before after k (more_effects ∙ ap (λ es. es ++ told ∷ []) effects) sends_are)),
         z_kept y.keeper h.records,
         up,

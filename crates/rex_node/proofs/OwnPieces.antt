@@ -1,5 +1,5 @@
 -- A node proposes the piece that it has made.
-use Rattle.std.proofs.Common.{◌≡◌, ℕ, suc, ◌+◌, ◌<◌, Bool, true, false, cond, List, [], ◌∷◌, ◌++◌, length, Option, Some, None, Result, Ok, Err, inl, inr, refl, sym, ap, subst, ◌∙◌, arith}
+use Rattle.std.proofs.Common.{◌≡◌, ℕ, suc, ◌+◌, ◌<◌, true, false, cond, List, [], ◌∷◌, ◌++◌, length, Option, Some, None, Result, Ok, Err, inl, inr, refl, sym, ap, subst, ◌∙◌, arith}
 use Rattle.std.specs.Prelude.{IfSome, IfOk, OnErr, is_some, is_err, nat_le, option_map}
 use Rattle.std.proofs.lemmas.Bool.{false≢true, lt-leb}
 use Rattle.rex_syntax.specs.declared.service.Declarations.{Declarations}
@@ -10,7 +10,7 @@ use Rattle.rex_cut.specs.Greatest.{greatest_cut}
 use Rattle.rex_paxos.specs.Proposer.{ProposerValue}
 use Rattle.rex_report.specs.declared.effect.Effect.TheVariants as effect
 use Rattle.rex_traits.specs.Chains.{Answer}
-use Rattle.rex_cluster.specs.Records.{Proposal, known}
+use Rattle.rex_cluster.specs.Records.{known}
 use Rattle.rex_cluster.specs.Node.{Lead, Failure}
 use Rattle.rex_cluster.specs.Calls.{enough, propose, say, settle}
 use Rattle.rex_cluster.specs.Values.{Value, service_of, values_fit}

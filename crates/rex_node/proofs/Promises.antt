@@ -13,7 +13,7 @@ use Rattle.rex_durable.specs.declared.records.Rec.TheVariants as kept
 use Rattle.rex_durable.specs.Spelling.{HasSpelling, record_bytes}
 use Rattle.rex_report.specs.declared.effect.Effect.TheVariants as effect
 use Rattle.rex_traits.specs.Chains.{Answer}
-use Rattle.rex_cluster.specs.Records.{Proposal, promise, accepted, offset, known, from_on}
+use Rattle.rex_cluster.specs.Records.{promise, accepted, offset, known, from_on}
 use Rattle.rex_cluster.specs.Records.Rec.{Promised, Accepted}
 use Rattle.rex_cluster.specs.Node.{Failure}
 use Rattle.rex_cluster.specs.Node.Content.{Promise, Accepted as Voted, Nack}

@@ -1,6 +1,5 @@
 -- An open proposal stays the cut that was proposed last where an event is recorded.
 use Rattle.std.proofs.Common.{◌≡◌, ℕ, true, false, cond, not, ◌⊎◌, inl, inr, List, [], ◌∷◌, ◌++◌, refl, sym, ap, subst, ◌∙◌, arith, le_trans, le-ltb, append-nil, Option, Some, None}
-use Rattle.std.specs.Prelude.{unwrap_or}
 use Rattle.std.proofs.lemmas.Bool.{false≢true, eqb-true}
 use Rattle.std.proofs.lemmas.List.Elements.{filter-append}
 use Rattle.rand_pcg.specs.Lcg.{Lcg}
@@ -25,7 +24,7 @@ use Rattle.rex_record.specs.Value.{live_after}
 use Rattle.rex_record.specs.Value as recorders
 use Rattle.rex_record.specs.Kept.{IsRecorder}
 use Rattle.rex_cluster.specs.Records.{Proposal}
-use Rattle.rex_cluster.specs.Values.{Value, events_of, trace_of, state_after}
+use Rattle.rex_cluster.specs.Values.{Value, trace_of, state_after}
 use Rattle.rex_cluster.proofs.Replies.{state_is, trace_push}
 use Rattle.rex_node.specs.Parts.{ActingValue, Executes, IsCutAt, OpenIsCut}
 

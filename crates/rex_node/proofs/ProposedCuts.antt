@@ -21,7 +21,6 @@ use Rattle.rex_cluster.specs.Lanes.{CallHere}
 use Rattle.rex_node.specs.declared.going.Going.{Going}
 use Rattle.rex_node.specs.declared.going.Going.TheVariants.{On, Down}
 use Rattle.rex_node.specs.declared.step.Draft.{Draft}
-use Rattle.rex_node.specs.Calls.{armed_with}
 use Rattle.rex_node.specs.Going.{BreaksOff, Comes, Ends, Fell, IsStuck, Leads as LeadsOn, LosesFirst, so_far}
 use Rattle.rex_node.specs.Parts.{ActingValue, NodeValue, HasDecoded, HasGoneOn, IsKept, IsResting, IsProposer, IsSame, Proposes, here_of, lead_of, role_of, IsDown}
 use Rattle.rex_node.specs.Leading.{HasLearned, HasOpened, Learns, LearnsShort, Opens, OpensShort, accept_own, settling}
@@ -192,7 +191,7 @@ module _ {K : Type 0} (records : K → List (List ℕ)) (gives : K → List ℕ 
           let o = opens_next On h leads in (
             (
               leads_then records gives faults service
-                   o.0
+                  o.0
                   (leads_same records gives faults service refl
                   (λ f. stays_open x.nodes sv x.id l _ _ role (alone ∙ majority_where e))),
               o.1,
@@ -244,7 +243,7 @@ module _ {K : Type 0} (records : K → List (List ℕ)) (gives : K → List ℕ 
         to_decide : LeadsOn records gives faults service (whole_of (length x.known + 1) (effect.Proposes x.id (length x.known + 1) events) l) (decides x.nodes x.seed x.id (is_some x.acting) (length x.known + 1)) x.keeper mid.keeper (so_far records service past x before) (so_far records service past mid between)
         to_decide =
             leads_then records gives faults service
-             (opens_next On h leads).0
+            (opens_next On h leads).0
             (leads_same records gives faults service refl
             (λ f. knows_at_once x.nodes sv x.id l _ _ (alone ∙ majority_where closed_now)))
 
@@ -270,9 +269,9 @@ module _ {K : Type 0} (records : K → List (List ℕ)) (gives : K → List ℕ 
             let o = learns_next On hl in (
               (
                 leads_then records gives faults service
-                     to_decide
+                    to_decide
                     (leads_then records gives faults service
-                     o.0
+                    o.0
                     (leads_same records gives faults service refl
                     (λ f. settles_active left x.nodes sv x.id role refl refl))),
                 o.1,
@@ -296,7 +295,7 @@ module _ {K : Type 0} (records : K → List (List ℕ)) (gives : K → List ℕ 
             let o = learns_next Down hl in (
               (
                 leads_fell records gives faults service
-                     to_decide
+                    to_decide
                     (subst (λ id. Fell records gives faults service (decides x.nodes x.seed x.id (is_some x.acting) (length x.known + 1)) id mid.keeper y.keeper (so_far records service past mid between) (so_far records service past y after)) same.id o.0),
                 o.1,
               ),

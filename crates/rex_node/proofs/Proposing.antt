@@ -12,7 +12,6 @@ use Rattle.rex_cut.specs.Delta.{delta_at}
 use Rattle.rex_cut.specs.Greatest.{IsCutOf}
 use Rattle.rex_cut.proofs.Highest.{greatest_is}
 use Rattle.rex_delta.specs.Reading.{delta_in}
-use Rattle.rex_state.specs.Value.{StateValue}
 use Rattle.rex_state.specs.Start.{start_of}
 use Rattle.rex_state.specs.Machine.{run}
 use Rattle.rex_state.specs.Commute.{GoesFirst}

@@ -2,22 +2,18 @@
 use Rattle.std.proofs.Common.{◌≡◌, ℕ, zero, suc, Bool, true, false, cond, ◌⊎◌, List, [], ◌∷◌, ◌++◌, length, Option, Some, None, refl, sym, subst, inl, inr}
 use Rattle.std.specs.Prelude.{map, ◌==◌, nat_lt, nat_le}
 use Rattle.rex_event.specs.declared.event.Event.{Event}
-use Rattle.rex_event.specs.Cuts.{below}
-use Rattle.rex_cut.specs.Greatest.{greatest_cut}
 use Rattle.rex_record.specs.declared.recorder.Release.{Release}
-use Rattle.rex_record.specs.Value.{releases}
 use Rattle.rex_syntax.specs.declared.service.Declarations.{Declarations}
 use Rattle.rex_report.specs.declared.effect.Effect.{Effect}
 use Rattle.rex_report.specs.declared.effect.Effect.TheVariants as effect
-use Rattle.rex_cluster.specs.Records.{Rec, Proposal, promise, accepted, offset, base, known}
-use Rattle.rex_cluster.specs.Records.Rec.{Promised, Accepted, Known, Dropped, Transferred}
-use Rattle.rex_cluster.specs.Quorum.{round_of, ballot_above, is_in, is_majority}
+use Rattle.rex_cluster.specs.Records.{Rec, Proposal, promise, accepted, offset, known}
+use Rattle.rex_cluster.specs.Quorum.{is_in, is_majority}
 use Rattle.rex_cluster.specs.Node.{Service, Content, Lead, Role, Failure, role_name}
 use Rattle.rex_cluster.specs.Node.Content.{Prepare, Promise, Accept, Accepted as Voted, Chosen as Chose, Nack, Ask, Snapshot}
 use Rattle.rex_cluster.specs.Node.Role.{Follower, Leads}
 use Rattle.rex_cluster.specs.Releases.{IsAmong}
-use Rattle.rex_cluster.specs.Values.{Value, events_of, trace_of, state_after, release_effect, service_of}
-use Rattle.rex_cluster.specs.Lanes.{CallHere, active_only, is_faithful, cut_live, cut_lead, cut_role, cut, value_at}
+use Rattle.rex_cluster.specs.Values.{Value, release_effect, service_of}
+use Rattle.rex_cluster.specs.Lanes.{CallHere, active_only, cut_live, cut_lead, cut_role, cut}
 use Rattle.rex_cluster.specs.Calls.{Call, say, follow, followed, append, logged, propose, released, decide, best, choose, lead, turn, settle, enough, own_reports, stand, elect, on_prepare, heard, on_own_promise, on_promise, has_last, on_accept, voted, on_own_vote, on_voted, on_chosen, on_nack, on_snapshot, drop_known, receive}
 use Rattle.rex_cluster.proofs.Saying.{among_either}
 

@@ -15,7 +15,7 @@ use Rattle.rex_cluster.specs.Records.{Rec, base}
 use Rattle.rex_cluster.specs.Node.{Failure}
 use Rattle.rex_cluster.specs.Calls.{answer, append, follow, followed, logged, send}
 use Rattle.rex_cluster.specs.Values.{Value}
-use Rattle.rex_cluster.specs.Lanes.{Here, CallHere}
+use Rattle.rex_cluster.specs.Lanes.{CallHere}
 use Rattle.rex_node.specs.declared.step.Draft.{Draft}
 use Rattle.rex_node.specs.declared.going.Going.TheVariants.{On, Down}
 use Rattle.rex_log.specs.Messages.{content_in, message_in}

@@ -12,7 +12,6 @@ use Rattle.rex_state.specs.Machine.{run}
 use Rattle.rex_state.specs.Sound.{IsSound}
 use Rattle.rex_state.proofs.Run.{run-then}
 use Rattle.rex_state.proofs.Sounds.{run_keeps, start_keeps}
-use Rattle.rex_report.specs.declared.effect.Effect.{Effect}
 use Rattle.rex_report.specs.declared.effect.Effect.TheVariants.{Replayed, UpToDate}
 use Rattle.rex_traits.specs.Chains.{Answer}
 use Rattle.rex_cluster.specs.Records.{known}
@@ -25,7 +24,7 @@ use Rattle.rex_node.specs.declared.step.Step.{Step}
 use Rattle.rex_log.specs.Messages.{message_in}
 use Rattle.rex_node.specs.Calls.{Does}
 use Rattle.rex_log.specs.Log.{log_of}
-use Rattle.rex_node.specs.Parts.{ActingValue, NodeValue, IsKept, IsResting, IsUp, StaysResting, here_of, reached_at}
+use Rattle.rex_node.specs.Parts.{NodeValue, IsKept, IsResting, IsUp, StaysResting, here_of, reached_at}
 use Rattle.rex_node.proofs.Appended.{IsLogged, Beside, logged_of, beside_of, up_of}
 use Rattle.rex_node.proofs.Leaving.{role_active}
 use Rattle.rex_node.proofs.Reaching.{now_reached}

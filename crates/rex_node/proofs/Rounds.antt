@@ -7,7 +7,6 @@ use Rattle.rex_ballot.specs.declared.proposal.Proposal.{Proposal as Kept}
 use Rattle.rex_paxos.specs.Counting as counting
 use Rattle.rex_paxos.specs.Counting.{AreCounted}
 use Rattle.rex_paxos.specs.Proposer.{ProposerValue, is_candidate}
-use Rattle.rex_paxos.specs.Reports.{best_for}
 use Rattle.rex_syntax.specs.declared.service.Declarations.{Declarations}
 use Rattle.rex_schedule.specs.Fits.{RequestFits}
 use Rattle.rex_gate.specs.Noted.{AnswersValue, answers_at}
@@ -15,7 +14,7 @@ use Rattle.rex_record.specs.Value.{RecorderValue, started}
 use Rattle.rex_state.specs.Value.{StateValue}
 use Rattle.rex_traits.specs.Chains.{Answer}
 use Rattle.rex_report.specs.declared.effect.Effect.TheVariants as effect
-use Rattle.rex_cluster.specs.Records.{Proposal, known}
+use Rattle.rex_cluster.specs.Records.{known}
 use Rattle.rex_cluster.specs.Node.{Failure, Lead, Role, Service, dice_of}
 use Rattle.rex_cluster.specs.Node.Role.{Leads as Leading}
 use Rattle.rex_cluster.specs.Quorum.{is_majority}
@@ -27,8 +26,8 @@ use Rattle.rex_node.specs.declared.going.Going.TheVariants.{On}
 use Rattle.rex_node.specs.declared.going.Round.TheVariants.{Done}
 use Rattle.rex_node.specs.declared.step.Draft.{Draft}
 use Rattle.rex_log.specs.Messages.{message_in}
-use Rattle.rex_log.specs.Log.{log_of, proposal_in}
-use Rattle.rex_node.specs.Parts.{NodeValue, ActingValue, ActsFor, HasGoneOn, IsActing, IsKept, IsProposer, IsUp, OpenIsCut, Proposes, here_of, lead_of, open_of, role_of, work_of, HasReached, ReachedValue, reached_at}
+use Rattle.rex_log.specs.Log.{proposal_in}
+use Rattle.rex_node.specs.Parts.{NodeValue, ActingValue, ActsFor, HasGoneOn, IsActing, IsKept, IsProposer, IsUp, OpenIsCut, Proposes, here_of, lead_of, open_of, role_of, HasReached, ReachedValue, reached_at}
 use Rattle.rex_node.specs.Calls.{armed_with}
 use Rattle.rex_node.specs.Going.{MayGoOn, above, so_far}
 use Rattle.rex_node.specs.Leading.{GoesRound, IsActive, IsFree, activated, fresh, goes_on, may_lead, reported_value}

@@ -5,13 +5,11 @@ use Rattle.rex_syntax.specs.declared.service.Declarations.{Declarations}
 use Rattle.rex_state.specs.Value.{StateValue}
 use Rattle.rex_traits.specs.Chains.{Answer}
 use Rattle.rex_traits.proofs.Chained.{chained}
-use Rattle.rex_cluster.specs.Records.{Rec, Proposal, known, base}
-use Rattle.rex_cluster.specs.Records.Rec.{Accepted, Known}
-use Rattle.rex_cluster.specs.Quorum.{is_majority}
+use Rattle.rex_cluster.specs.Records.{Rec, Proposal, base}
 use Rattle.rex_cluster.specs.Node.{Service, Lead, Role, Failure}
 use Rattle.rex_cluster.specs.Node.Failure.{After}
 use Rattle.rex_cluster.specs.Node.Role.{Follower, Leads}
-use Rattle.rex_cluster.specs.Calls.{Call, append, decide, best, choose, lead, turn, settle}
+use Rattle.rex_cluster.specs.Calls.{Call, append, choose, lead, turn, settle}
 use Rattle.rex_cluster.specs.Values.{Value}
 use Rattle.rex_cluster.specs.Lanes.{CallHere}
 use Rattle.rex_node.specs.declared.step.Draft.{Draft}

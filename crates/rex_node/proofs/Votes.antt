@@ -21,8 +21,7 @@ use Rattle.rex_state.specs.Value.{StateValue}
 use Rattle.rex_traits.specs.Chains.{Answer}
 use Rattle.rex_report.specs.declared.effect.Effect.{Effect}
 use Rattle.rex_report.specs.declared.effect.Effect.TheVariants as effect
-use Rattle.rex_cluster.specs.Records.{Proposal}
-use Rattle.rex_cluster.specs.Node.{Lead, Role, Service}
+use Rattle.rex_cluster.specs.Node.{Lead, Service}
 use Rattle.rex_cluster.specs.Node.Role.{Leads as Leading}
 use Rattle.rex_cluster.specs.Quorum.{IsNode as IsNodeOf, is_in, is_majority}
 use Rattle.rex_cluster.specs.Calls.{Call, count_vote, led, on_own_vote, on_voted, say, settle}
@@ -33,8 +32,8 @@ use Rattle.rex_node.specs.Electing.{acceptance_vote_on, accepting_from, told_of}
 use Rattle.rex_log.specs.Messages.{message_in}
 use Rattle.rex_node.specs.declared.going.Going.TheVariants.{On}
 use Rattle.rex_node.specs.declared.step.Draft.{Draft}
-use Rattle.rex_log.specs.Log.{log_of, proposal_in}
-use Rattle.rex_node.specs.Parts.{NodeValue, ActingValue, HasGoneOn, HasOpen, IsActing, IsKept, IsResting, IsProposer, IsUp, Proposes, here_of, lead_of, open_of, role_of, work_of}
+use Rattle.rex_log.specs.Log.{proposal_in}
+use Rattle.rex_node.specs.Parts.{NodeValue, ActingValue, HasGoneOn, HasOpen, IsActing, IsKept, IsResting, IsProposer, IsUp, Proposes, here_of, lead_of, open_of, role_of}
 use Rattle.rex_node.specs.Calls.{armed_with}
 use Rattle.rex_node.specs.Going.{Ends, so_far}
 use Rattle.rex_node.proofs.Appended.{beside_of, logged_of, up_of}
@@ -216,7 +215,7 @@ module _ {K : Type 0} (records : K → List (List ℕ)) (gives : K → List ℕ 
       leads_same records gives faults service refl
           (λ f. ignores v (armed_with f (so_far records service past x before)) refl
           ∙ call_is
-           refl refl refl (ap (map (message_in past)) (sym sends)) (sym effects)),
+          refl refl refl (ap (map (message_in past)) (sym sends)) (sym effects)),
       kept_so,
       up,
     ),
@@ -297,7 +296,7 @@ module _ {K : Type 0} (records : K → List (List ℕ)) (gives : K → List ℕ 
               (λ f. whole_is e _ refl
               ∙ ap (λ z. outcome x.nodes (service_of service x.seed) x.id from (lead_of x.acceptor p (is_some x.acting)) z (armed_with f (so_far records service past x before))) vote_at
               ∙ call_is
-               refl refl refl (ap (map (message_in past)) (sym sends)) (sym effects)),
+              refl refl refl (ap (map (message_in past)) (sym sends)) (sym effects)),
           record { id = node.id; few = node.few; up = λ t. y_up; reached = node.reached; decoded = node.decoded },
           up,
         ),

@@ -8,12 +8,11 @@ use Rattle.rex_durable.specs.declared.records.Rec.{Rec as KeptRec}
 use Rattle.rex_durable.specs.Spelling.{HasSpelling, IsDue, record_bytes}
 use Rattle.rex_report.specs.declared.effect.Effect.{Effect}
 use Rattle.rex_report.specs.declared.effect.Effect.TheVariants as effect
-use Rattle.rex_msg.specs.declared.message.Message.{Message as Sent}
 use Rattle.rex_cluster.specs.Records.{Rec, base}
 use Rattle.rex_cluster.specs.Node.{Failure, Message, Role, Work, down_node}
 use Rattle.rex_cluster.specs.Calls.{append, logged}
 use Rattle.rex_cluster.specs.Values.{Value}
-use Rattle.rex_cluster.specs.Lanes.{Here, CallHere}
+use Rattle.rex_cluster.specs.Lanes.{CallHere}
 use Rattle.rex_cluster.proofs.Lists.{length_push}
 use Rattle.rex_node.specs.declared.going.Going.{Going}
 use Rattle.rex_node.specs.declared.going.Going.TheVariants.{Down}

@@ -2,8 +2,7 @@
 use Rattle.std.proofs.Common.{◌≡◌, ℕ, zero, suc, ◌-◌, ◌<◌, ◌≤◌, Bool, true, false, cond, eqb, List, [], ◌∷◌, length, refl, ap, subst, ◌∙◌, arith}
 use Rattle.std.specs.Prelude.{nat_lt, if◌then◌else◌}
 use Rattle.rex_syntax.specs.declared.service.Declarations.{Declarations}
-use Rattle.rex_state.specs.Value.{StateValue}
-use Rattle.rex_cluster.specs.Records.{Rec, known}
+use Rattle.rex_cluster.specs.Records.{known}
 use Rattle.rex_cluster.specs.Values.{Value}
 use Rattle.rex_cluster.specs.Lanes.{Here}
 use Rattle.rex_cluster.specs.Agreed.{agreed, longer_of, longest}

@@ -9,9 +9,6 @@ use Rattle.rex_reads.specs.declared.seen.Read.{Read}
 use Rattle.rex_reads.specs.Reads.{seen_after}
 use Rattle.rex_report.specs.declared.effect.Effect.{Effect}
 use Rattle.rex_schedule.specs.declared.scenario.ScheduleLine.TheVariants.{ReadVariable}
-use Rattle.rex_cluster.specs.Node.{Message}
-use Rattle.rex_cluster.specs.Lanes.{Here}
-use Rattle.rex_cluster.specs.Values.{Value}
 use Rattle.rex_cluster.specs.Reading.{read_at, read_effect}
 use Rattle.rex_cluster.specs.World.{World as ModelWorld, node_at, sent_from}
 use Rattle.rex_world.specs.declared.told.Told.{Told}

@@ -1,6 +1,6 @@
 -- A world before the first line.
 use Rattle.std.proofs.Common.{◌≡◌, ℕ, zero, suc, ◌+◌, ◌≤◌, Bool, true, false, List, [], ◌∷◌, ◌++◌, length, take, replicate, refl, sym, ◌∙◌, ap, subst, arith, add-zero, length-append}
-use Rattle.std.specs.Prelude.{◌==◌, ◌&&◌, ◌%◌, nat_le}
+use Rattle.std.specs.Prelude.{◌&&◌}
 use Rattle.std.proofs.lemmas.Bool.{leb-true}
 use Rattle.std.proofs.lemmas.Grind.{replicate_next}
 use Rattle.std.specs.List.{All, list_all}

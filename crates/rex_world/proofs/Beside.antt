@@ -10,17 +10,14 @@ use Rattle.rex_state.specs.Value.{StateValue}
 use Rattle.rex_delta.specs.Reading.{delta_at, delta_in}
 use Rattle.rex_durable.specs.declared.records.Rec.{Rec as KeptRec}
 use Rattle.rex_durable.specs.declared.records.Rec.TheVariants as rec
-use Rattle.rex_durable.specs.Reading.{record_in}
 use Rattle.rex_snapshot.specs.Reading.{state_in}
 use Rattle.rex_msg.specs.declared.message.Message.{Message as Said}
 use Rattle.rex_msg.specs.declared.message.Content.{Content as Says}
 use Rattle.rex_msg.specs.declared.message.Content.TheVariants as says
-use Rattle.rex_msg.specs.Reading.{message_in as read_in}
 use Rattle.rex_cluster.specs.Records.{Rec, HasTransferred}
 use Rattle.rex_cluster.specs.Invariant.{Begins}
-use Rattle.rex_cluster.specs.Node.{Message}
 use Rattle.rex_cluster.specs.Values.{Value, spells, trace_of}
-use Rattle.rex_log.specs.Log.{first, log_behind, log_of, log_with, read_state, standing_in}
+use Rattle.rex_log.specs.Log.{first, log_behind, log_of, log_with, read_state}
 use Rattle.rex_log.specs.Messages.{message_in}
 use Rattle.rex_log.specs.Messages as told
 use Rattle.rex_log.specs.Laws.{AreInPast}

@@ -16,7 +16,7 @@ use Rattle.rex_cluster.specs.Node.{Failure, is_active}
 use Rattle.rex_cluster.specs.Calls.{begin}
 use Rattle.rex_cluster.specs.Lanes.{Here}
 use Rattle.rex_cluster.specs.World.{World as ModelWorld, node_at, put}
-use Rattle.rex_cluster.specs.Takes.{BeginsInRange, after_doings, take, take_event}
+use Rattle.rex_cluster.specs.Takes.{BeginsInRange, after_doings, take_event}
 use Rattle.rex_cluster.specs.Agreed.{agreed}
 use Rattle.rex_cluster.specs.Values.{Value}
 use Rattle.rex_safety.specs.Kept.{IsKept}

@@ -1,5 +1,5 @@
 -- The end lines of nodes.
-use Rattle.std.proofs.Common.{◌≡◌, ℕ, suc, ◌+◌, ◌-◌, ◌<◌, ◌≤◌, Bool, true, List, [], ◌∷◌, ◌++◌, length, take, Option, Some, None, is_some, refl, sym, ◌∙◌, ap, subst, arith, append_assoc, add-zero, add-one, length-take}
+use Rattle.std.proofs.Common.{◌≡◌, ℕ, suc, ◌+◌, ◌-◌, ◌<◌, ◌≤◌, true, List, [], ◌∷◌, ◌++◌, length, take, Option, Some, None, is_some, refl, sym, ◌∙◌, ap, subst, arith, append_assoc, add-zero, add-one, length-take}
 use Rattle.std.specs.Prelude.{slice_index_or, unwrap_or, if◌then◌else◌, ℤ, Result, OnOk}
 use Rattle.std.proofs.lemmas.Result.{on_ok_weaker}
 use Rattle.std.proofs.Math.Seq.{take-suc}
@@ -19,7 +19,7 @@ use Rattle.rex_cluster.specs.Values.{Value, trace_of, state_after}
 use Rattle.rex_cluster.specs.Lanes.{Here}
 use Rattle.rex_traits.specs.Keeping.{KeeperValue}
 use Rattle.rex_log.specs.Log.{log_of}
-use Rattle.rex_node.specs.Parts.{NodeValue, ActingValue, IsNode, IsActing, knows, here_of, role_of, work_of, state_of, shown_of, shown_with}
+use Rattle.rex_node.specs.Parts.{NodeValue, ActingValue, IsNode, IsActing, here_of, role_of, work_of, shown_of, shown_with}
 use Rattle.rex_world.specs.Members.{Member, AreMembers, IsMember, here_at, heres, records_of}
 use Rattle.rex_node.specs.Parts.{count_of as known_count}
 use Rattle.rex_world.proofs.Knowing.{count_known}

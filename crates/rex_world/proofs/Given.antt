@@ -1,5 +1,5 @@
 -- An event that a node is handed.
-use Rattle.std.proofs.Common.{◌≡◌, ℕ, ◌-◌, ◌≤◌, Bool, true, false, List, ◌++◌, [], length, Result, Ok, Err, Option, Some, None, IfOk, OnErr, OnOk, refl, sym, ap, subst, ◌∙◌, append-nil}
+use Rattle.std.proofs.Common.{◌≡◌, ℕ, ◌-◌, ◌≤◌, Bool, true, false, List, [], length, Result, Ok, Err, Option, Some, None, IfOk, OnErr, OnOk, refl, sym, ap, subst, ◌∙◌, append-nil}
 use Rattle.std.specs.Prelude.{slice_index_or, slice_set, if◌then◌else◌}
 use Rattle.std.specs.Global.{Vec}
 use Rattle.std.proofs.lemmas.List.Elements.{All-nil}
@@ -9,7 +9,7 @@ use Rattle.rex_event.specs.declared.event.Event.{Event}
 use Rattle.rex_record.specs.declared.turns.Turn.{Turn}
 use Rattle.rex_schedule.specs.Fits.{IsNode, RequestFits}
 use Rattle.rex_traits.specs.Keeping.{KeeperValue}
-use Rattle.rex_cluster.specs.Node.{Failure, Lead, Role, is_active, role_name}
+use Rattle.rex_cluster.specs.Node.{Lead, Role, is_active, role_name}
 use Rattle.rex_cluster.specs.Node.Role.{Follower, Leads}
 use Rattle.rex_cluster.specs.Calls.{begin}
 use Rattle.rex_cluster.specs.Values.{Value}
@@ -78,7 +78,7 @@ module _ (service : Declarations) (w : ModelWorld) (m : ℕ) (e : Event) where
       → (let v : ModelWorld = record w { nodes = put w.nodes m (taken (taken_in service (node_at w.nodes m) e) (begin (node_at w.nodes m))).node } in v) ≡ take service w m e
   take_is up active =
       same_world
-       refl refl (sym (append-nil w.messages)) (sym (append-nil w.handed)) refl
+      refl refl (sym (append-nil w.messages)) (sym (append-nil w.handed)) refl
       ∙ sym (ap (λ t. (after w m (active_only t (begin (node_at w.nodes m)) (take_event service e (begin (node_at w.nodes m))))).world) active)
       ∙ sym (ap (λ t. (if_up t w m (active_only (is_active (node_at w.nodes m).role) (begin (node_at w.nodes m)) (take_event service e (begin (node_at w.nodes m))))).world) up)
 

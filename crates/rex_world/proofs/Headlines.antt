@@ -15,7 +15,7 @@ use Rattle.rex_state.specs.Start.{start_of}
 use Rattle.rex_state.specs.Machine.{run}
 use Rattle.rex_schedule.specs.declared.scenario.ScheduleLine.{ScheduleLine}
 use Rattle.rex_schedule.specs.Fits.{RequestFits, LineFits}
-use Rattle.rex_cluster.specs.Values.{Value, spells, runs, trace_of, values_fit, service_of}
+use Rattle.rex_cluster.specs.Values.{Value, spells, runs, trace_of, values_fit}
 use Rattle.rex_cluster.specs.Agreed.{world_after, agreed}
 use Rattle.rex_safety.proofs.Agreeing.{agreed_fits, is_one_list}
 use Rattle.rex_safety.proofs.Steps.{reached_ok}
@@ -33,7 +33,6 @@ use Rattle.rex_state.proofs.Counts.{runs_count_on}
 use Rattle.rex_state.proofs.Sounds.{start_keeps}
 use Rattle.rex_cluster.specs.Values.{delta_of}
 use Rattle.rex_cluster.specs.Invariant.{IsIn}
-use Rattle.rex_cluster.specs.Agreed.{trace_at}
 use Rattle.rex_order.specs.Edges.{joined, HasEdge, AllRight}
 use Rattle.rex_order.specs.Laws.{AllowExtensions}
 use Rattle.rex_order.proofs.Extensions.{cuts_run_alike}

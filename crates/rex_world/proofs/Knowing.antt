@@ -1,5 +1,5 @@
 -- How many values a node knows.
-use Rattle.std.proofs.Common.{◌≡◌, ℕ, ◌+◌, true, List, length, sym, ◌∙◌, ap, length-append}
+use Rattle.std.proofs.Common.{◌≡◌, ◌+◌, true, List, length, sym, ◌∙◌, ap, length-append}
 use Rattle.rex_syntax.specs.declared.service.Declarations.{Declarations}
 use Rattle.rex_traits.specs.Keeping.{KeeperValue}
 use Rattle.rex_cluster.specs.Records.{known}

@@ -13,7 +13,6 @@ use Rattle.rex_cluster.specs.Values.{Value}
 use Rattle.rex_cluster.specs.World.{sent_from}
 use Rattle.rex_msg.specs.declared.message.Content.{Content as Says}
 use Rattle.rex_msg.specs.declared.message.Content.TheVariants as says
-use Rattle.rex_report.specs.declared.effect.MessageKind.{MessageKind}
 use Rattle.rex_log.specs.Messages.{content_in, message_in}
 use Rattle.rex_world.specs.Calls.{Sends}
 

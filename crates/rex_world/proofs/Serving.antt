@@ -16,12 +16,12 @@ use Rattle.rex_state.specs.Value.{StateValue}
 use Rattle.rex_report.specs.declared.effect.Effect.{Effect}
 use Rattle.rex_report.specs.declared.effect.Effect.TheVariants as effect
 use Rattle.rex_cluster.specs.Releases.{IsAmong}
-use Rattle.rex_cluster.specs.Node.{Failure, Message, Service}
+use Rattle.rex_cluster.specs.Node.{Failure, Service}
 use Rattle.rex_cluster.specs.Invariant.{IsIn}
 use Rattle.rex_cluster.specs.Calls.{begin, receive, say, start, stop}
 use Rattle.rex_cluster.specs.Values.{Value, service_of}
 use Rattle.rex_cluster.specs.Lanes.{Here, CallHere, cut, submit_request, turned}
-use Rattle.rex_cluster.specs.World.{World as ModelWorld, after, at_node, deliver_found, if_up, node_at, with_handed, Row}
+use Rattle.rex_cluster.specs.World.{World as ModelWorld, after, at_node, deliver_found, if_up, node_at, with_handed}
 use Rattle.rex_safety.specs.Kept.{IsKept}
 use Rattle.rex_safety.proofs.Keeps.{kept_right, step_kept}
 use Rattle.rex_log.specs.Messages.{content_in}

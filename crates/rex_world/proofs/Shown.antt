@@ -1,6 +1,6 @@
 -- Replies are released by nodes that are up and active, and there stays a number for each client.
 use Rattle.std.proofs.Common.{◌≡◌, ℕ, zero, suc, ◌<◌, max, Bool, true, false, cond, List, [], ◌∷◌, length, get_or, Option, Some, None, refl, sym, subst, ◌∙◌, inl, inr, arith, length-set}
-use Rattle.std.specs.Prelude.{◌==◌, ◌||◌, nat_lt, slice_get, slice_index_or}
+use Rattle.std.specs.Prelude.{◌==◌, nat_lt, slice_get, slice_index_or}
 use Rattle.std.specs.List.{All}
 use Rattle.std.proofs.lemmas.Bool.{false≢true}
 use Rattle.rex_syntax.specs.declared.request.Request.{Request}
@@ -12,13 +12,13 @@ use Rattle.rex_report.specs.declared.effect.Effect.{Effect}
 use Rattle.rex_report.specs.declared.effect.Effect.TheVariants as effect
 use Rattle.rex_state.specs.Value.{StateValue}
 use Rattle.rex_syntax.specs.declared.version.Version.{Version}
-use Rattle.rex_cluster.specs.Records.{Rec, base, known, offset}
+use Rattle.rex_cluster.specs.Records.{Rec, base}
 use Rattle.rex_cluster.specs.Node.{Content, Failure, Service, is_active}
 use Rattle.rex_cluster.specs.Node.Failure.{After}
 use Rattle.rex_cluster.specs.Calls.{append, ask, begin, checkpoint, drop_known, elect, receive, replay, say, start, stop}
 use Rattle.rex_cluster.specs.Values.{Value, service_of}
 use Rattle.rex_cluster.specs.Lanes.{Here, CallHere, active_only, cut, lane_turn, submit_request}
-use Rattle.rex_cluster.specs.Reading.{released_to, seen_by_release, seen_by_releases}
+use Rattle.rex_cluster.specs.Reading.{seen_by_release, seen_by_releases}
 use Rattle.rex_cluster.specs.Releases.{IsAmong}
 use Rattle.rex_cluster.proofs.Saying.{quiet_none, start_quiet, elect_says, receive_says, replay_says, checkpoint_says, drop_says, stop_says}
 use Rattle.rex_cluster.proofs.Replies.{SaysHere, StandsIn, replies_stand, quietly, submit_says, turn_says, cut_tells}

@@ -1,12 +1,9 @@
 -- A node that is started does as the model's.
 use Rattle.std.proofs.Common.{◌≡◌, ℕ, true, false, List, [], ◌∷◌, ◌++◌, length, Result, Ok, Err, IfOk, refl, ap, sym, ◌∙◌, subst}
-use Rattle.std.specs.Prelude.{take}
 use Rattle.rex_syntax.specs.declared.service.Declarations.{Declarations}
-use Rattle.rex_syntax.specs.declared.version.Version.TheVariants.{Two}
 use Rattle.rex_report.specs.declared.effect.Effect.{Effect}
 use Rattle.rex_report.specs.declared.effect.Effect.TheVariants as effect
-use Rattle.rex_cluster.specs.Records.{base, known, promise, has_old_base}
-use Rattle.rex_cluster.specs.Records.Rec.{Checkpoint}
+use Rattle.rex_cluster.specs.Records.{known, promise}
 use Rattle.rex_cluster.specs.Calls.{begin, migrate}
 use Rattle.rex_cluster.specs.Lanes.{Here}
 use Rattle.rex_cluster.specs.Values.{Value, service_of, values_fit}
@@ -18,7 +15,6 @@ use Rattle.rex_node.proofs.Ending.{no_messages}
 use Rattle.rex_log.specs.Log.{log_of}
 use Rattle.rex_node.specs.Parts.{HasReached, IsNode, StaysNode, count_of, knows}
 use Rattle.rex_node.specs.Restarting.{HasForgotten, HasRightBase}
-use Rattle.rex_traits.specs.Keeping.{KeeperValue}
 use Rattle.rex_world.specs.Calls.{Starts}
 use Rattle.rex_world.specs.Starting.{CameBack}
 use Rattle.rex_steps.specs.Steps.{IsDone}

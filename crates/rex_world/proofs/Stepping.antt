@@ -1,5 +1,5 @@
 -- What a step of the model comes to, from a world that runs.
-use Rattle.std.proofs.Common.{◌≡◌, ℕ, ◌≤◌, Bool, true, cond, List, length, Result, Ok, Err, OnOk, eq-eqb, refl, sym, ◌∙◌, ap, subst}
+use Rattle.std.proofs.Common.{◌≡◌, ℕ, ◌≤◌, true, cond, List, length, Result, Ok, Err, OnOk, eq-eqb, refl, sym, ◌∙◌, ap, subst}
 use Rattle.std.specs.declared.alloc.AllocError.{AllocError}
 use Rattle.rex_syntax.specs.declared.service.Declarations.{Declarations}
 use Rattle.rex_schedule.specs.declared.scenario.ScheduleLine.{ScheduleLine}
@@ -15,7 +15,7 @@ use Rattle.rex_cluster.proofs.Lists.{offset_known}
 use Rattle.rex_log.specs.Log.{first}
 use Rattle.rex_log.proofs.Firsts.{first_longer, first_take}
 use Rattle.rex_node.specs.Restarting.{HasForgotten}
-use Rattle.rex_cluster.specs.Lanes.{Here, CallHere}
+use Rattle.rex_cluster.specs.Lanes.{CallHere}
 use Rattle.rex_cluster.specs.World.{World as ModelWorld, node_at, logs, put, after}
 use Rattle.rex_cluster.specs.Invariant.{Begins, KeepsAll}
 use Rattle.rex_safety.specs.Kept.{roles, IsWorld, IsKept}

@@ -10,7 +10,7 @@ use Rattle.rex_schedule.specs.declared.scenario.Scenario.{Scenario}
 use Rattle.rex_cluster.specs.Values.{Value, trace_of, state_after, values_fit}
 use Rattle.rex_cluster.specs.Agreed.{agreed}
 use Rattle.rex_cluster.specs.Quorum.{IsNode}
-use Rattle.rex_cluster.specs.World.{World as ModelWorld, beginning, after_lines}
+use Rattle.rex_cluster.specs.World.{beginning, after_lines}
 use Rattle.rex_safety.specs.Keeping.{KeptValuesFit}
 use Rattle.rex_world.specs.declared.summary.Summary.{Summary}
 use Rattle.rex_world.specs.declared.world.World.{World}

@@ -1,10 +1,9 @@
 -- Worlds that lead on to the same end.
-use Rattle.std.proofs.Common.{◌≡◌, ℕ, List, ◌∷◌, sym, ap, subst, ◌∙◌}
+use Rattle.std.proofs.Common.{◌≡◌, List, ◌∷◌, sym, ap, subst, ◌∙◌}
 use Rattle.rex_syntax.specs.declared.service.Declarations.{Declarations}
-use Rattle.rex_syntax.specs.declared.request.Request.{Request}
 use Rattle.rex_schedule.specs.declared.scenario.ScheduleLine.{ScheduleLine}
 use Rattle.rex_schedule.specs.declared.scenario.Scenario.{Scenario}
-use Rattle.rex_cluster.specs.World.{World as ModelWorld, after_lines}
+use Rattle.rex_cluster.specs.World.{after_lines}
 use Rattle.rex_world.specs.declared.world.World.{World}
 use Rattle.rex_world.specs.Kept.{IsOf}
 use Rattle.rex_world.specs.World.{nodes_of, world_of}

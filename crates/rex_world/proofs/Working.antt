@@ -5,13 +5,11 @@ use Rattle.std.specs.List.{list_all}
 use Rattle.std.proofs.lemmas.Bool.{and_parts}
 use Rattle.std.proofs.lemmas.List.{append-nil}
 use Rattle.rex_syntax.specs.declared.service.Declarations.{Declarations}
-use Rattle.rex_event.specs.declared.event.Event.{Event}
 use Rattle.rex_event.specs.Cuts.{below}
 use Rattle.rex_cut.specs.Greatest.{greatest_cut}
 use Rattle.rex_schedule.specs.Fits.{IsNode}
 use Rattle.rex_paxos.specs.Acceptor.{AcceptorValue}
 use Rattle.rex_paxos.specs.Proposer.{ProposerValue}
-use Rattle.rex_state.specs.Value.{StateValue}
 use Rattle.rex_state.specs.Start.{start_of}
 use Rattle.rex_state.specs.Machine.{lane_of}
 use Rattle.rex_cluster.specs.Records.{known}
@@ -24,11 +22,11 @@ use Rattle.rex_safety.specs.Keeping.{AreCounts}
 use Rattle.rex_cluster.proofs.Few.{counts_are_few}
 use Rattle.rex_safety.proofs.Nexts.{next_fits}
 use Rattle.rex_safety.proofs.Spelled.{kept_room, kept_cut}
-use Rattle.rex_node.specs.Parts.{ActingValue, IsActing, knows, role_of, work_of}
+use Rattle.rex_node.specs.Parts.{ActingValue, IsActing, role_of, work_of}
 use Rattle.rex_node.specs.Calls.{AreLimits, CanBeCut, counts_for}
 use Rattle.rex_world.specs.declared.world.World.{World}
 use Rattle.rex_world.specs.Members.{Member, IsMember, here_at, heres}
-use Rattle.rex_world.specs.World.{world_of, nodes_of}
+use Rattle.rex_world.specs.World.{nodes_of}
 use Rattle.rex_world.specs.Kept.{IsRunning}
 use Rattle.rex_world.proofs.Headlines.{fit_run}
 use Rattle.rex_world.proofs.Placed.{here_is, member_is}

@@ -1,6 +1,6 @@
-use Rattle.std.proofs.Common.{arith, ◌≡◌, ℕ, ◌-◌, ◌+◌, ◌<◌, suc, true, List, length, sym, ap, subst, ◌∙◌, slice_index_or}
+use Rattle.std.proofs.Common.{arith, ◌≡◌, ℕ, ◌-◌, ◌+◌, ◌<◌, suc, true, length, sym, ap, subst, ◌∙◌, slice_index_or}
 use Rattle.rex_gate.specs.Numbers.{replies_to}
-use Rattle.rex_cluster.specs.Values.{Value, events_of}
+use Rattle.rex_cluster.specs.Values.{events_of}
 use Rattle.rex_node.proofs.Stamping.{IsSilent, found_last}
 use Rattle.rex_node.proofs.replies.last_held.Goals as goal
 

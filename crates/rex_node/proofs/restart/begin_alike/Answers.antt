@@ -1,6 +1,5 @@
-use Rattle.std.proofs.Common.{arith, ◌≡◌, ◌<◌, List, [], ◌∷◌, ◌++◌, length, sym, ap₂, ◌∙◌}
+use Rattle.std.proofs.Common.{arith, ◌≡◌, ◌<◌, [], ◌∷◌, ◌++◌, length, sym, ap₂, ◌∙◌}
 use Rattle.std.proofs.lemmas.List.{take_more}
-use Rattle.rex_cluster.specs.Values.{Value}
 use Rattle.rex_node.proofs.restart.begin_alike.Goals as goal
 
 pub loop-index-preserved : goal.loop-index-preserved

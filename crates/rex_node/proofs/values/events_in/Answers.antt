@@ -1,4 +1,3 @@
-use Rattle.rex_delta.specs.Reading.{delta_in}
 use Rattle.rex_node.proofs.Spelled.{spelled_counted}
 use Rattle.rex_node.proofs.Alone.{read_events}
 use Rattle.rex_node.proofs.values.events_in.Goals as goal

@@ -1,7 +1,5 @@
 use Rattle.std.proofs.Common.{◌≡◌, true, ap, sym, ◌∙◌}
-use Rattle.rex_state.specs.Value.{StateValue}
 use Rattle.rex_report.specs.declared.ends.End.TheVariants.{Up}
-use Rattle.rex_report.specs.declared.ends.UpEnd.{UpEnd}
 use Rattle.rex_world.proofs.Endings.{told_as, shown_is, end_is, is_few}
 use Rattle.rex_world.proofs.ends.push_node.Goals as goal
 

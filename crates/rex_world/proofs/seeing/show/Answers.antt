@@ -1,4 +1,3 @@
-use Rattle.rex_world.specs.Members.{here_at}
 use Rattle.rex_world.proofs.Shown.{one_released}
 use Rattle.rex_world.proofs.seeing.show.Goals as goal
 

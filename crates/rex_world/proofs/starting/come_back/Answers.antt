@@ -1,6 +1,4 @@
-use Rattle.std.proofs.Common.{◌≡◌, ◌++◌, List, IfOk, subst}
-use Rattle.rex_msg.specs.declared.message.Message.{Message}
-use Rattle.rex_node.specs.declared.step.Step.{Step}
+use Rattle.std.proofs.Common.{◌≡◌, ◌++◌, IfOk, subst}
 use Rattle.rex_world.proofs.Started.{joined_back, migrate_stays}
 use Rattle.rex_world.proofs.starting.come_back.Goals as goal
 

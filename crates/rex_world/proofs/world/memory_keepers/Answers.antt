@@ -1,7 +1,6 @@
-use Rattle.std.proofs.Common.{◌+◌, ◌∷◌, [], List, length, ap, length-append, subst, sym, ◌∙◌}
+use Rattle.std.proofs.Common.{◌+◌, ◌∷◌, [], length, ap, length-append, subst, sym, ◌∙◌}
 use Rattle.std.specs.List.{All}
 use Rattle.std.proofs.lemmas.List.Elements.{All-push}
-use Rattle.rex_traits.specs.Keeping.{KeeperValue}
 use Rattle.rex_traits.specs.StoreLaws.{memory_value}
 use Rattle.rex_world.specs.Members.{IsFresh}
 use Rattle.rex_world.proofs.world.memory_keepers.Goals as goal

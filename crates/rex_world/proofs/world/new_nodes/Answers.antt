@@ -1,9 +1,9 @@
-use Rattle.std.proofs.Common.{◌≡◌, ◌+◌, ◌∷◌, List, length, ap, arith, subst, sym, ◌∙◌}
+use Rattle.std.proofs.Common.{◌≡◌, ◌+◌, ◌∷◌, length, ap, arith, subst, sym, ◌∙◌}
 use Rattle.std.specs.List.{All}
 use Rattle.std.specs.Vec.Iter.{into_iter_items}
 use Rattle.std.proofs.lemmas.List.Elements.{All-head, All-rest}
 use Rattle.rex_traits.specs.Stores.{value_by}
-use Rattle.rex_world.specs.Members.{IsFresh, Member}
+use Rattle.rex_world.specs.Members.{IsFresh}
 use Rattle.rex_world.proofs.Beginning.{AreNew, new_next, none_new}
 use Rattle.rex_world.proofs.world.new_nodes.Goals as goal
 

@@ -1,6 +1,4 @@
 use Rattle.std.proofs.Common.{ap, ◌∙◌}
-use Rattle.std.specs.Option.{option_copied}
-use Rattle.rex_node.specs.Parts.{ActingValue}
 use Rattle.rex_node.proofs.Proposing.{trace_cut}
 use Rattle.rex_node.proofs.acting.Acting.piece.Goals as goal
 

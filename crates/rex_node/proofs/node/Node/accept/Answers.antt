@@ -2,7 +2,6 @@ use Rattle.std.proofs.Common.{ap}
 use Rattle.rex_durable.specs.declared.records.Rec.TheVariants as kept
 use Rattle.rex_node.proofs.Promises.{appends_at, on_err_anyway, accept_down, accept_stuck, accept_on}
 use Rattle.rex_node.proofs.node.Node.accept.Goals as goal
-use Rattle.rex_node.specs.Parts.{whole}
 
 pub returns-in-Down-clause-ends : goal.returns-in-Down-clause-ends
 returns-in-Down-clause-ends g c =
@@ -27,4 +26,4 @@ pub returns-clause-ends : goal.returns-clause-ends
 returns-clause-ends g c =
     accept_on _ _ c.requires.node c.requires.up c.args.draft.now _ _ _ _ c.requires.ballot c.requires.instance c.requires.value c.requires.late c.requires.fresh _ _
     (appends_at _ _ _ _ _ c.args.draft.now c.append.new.draft _ (ap (kept.Accepted c.args.ballot c.args.instance) c.in_ok-copied.ensures) c.in-On.is c.in_ok-append.ensures.appends)
-     c.in_ok-accepted-in-On.ensures.accepted c.in_ok-accepted-in-On.ensures.told c.in_ok-vote-in-On.ensures
+    c.in_ok-accepted-in-On.ensures.accepted c.in_ok-accepted-in-On.ensures.told c.in_ok-vote-in-On.ensures

@@ -1,5 +1,4 @@
 use Rattle.std.proofs.Common.{Some, ap, sym, ◌∙◌}
-use Rattle.rex_node.specs.declared.going.Going.TheVariants.{On, Down}
 use Rattle.rex_node.proofs.Written.{on_err}
 use Rattle.rex_node.proofs.Adopting.{known_as, learns_as, longer_as}
 use Rattle.rex_node.proofs.Majorities.{choose_cut, choose_down, choose_fits, choose_kept, choose_leads, choose_next, choose_short, choose_stuck, choose_there, chosen_count, chosen_ends, chosen_free, chosen_kept, chosen_may, chosen_of, chosen_runs, chosen_stuck, chosen_up}

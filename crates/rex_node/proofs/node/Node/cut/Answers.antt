@@ -5,7 +5,7 @@ use Rattle.rex_cluster.specs.Calls.{begin}
 use Rattle.rex_node.specs.Calls.{counts_for}
 use Rattle.rex_node.specs.Cutting.{ProposesPiece, ProposesPieceShort}
 use Rattle.rex_node.specs.Going.{Ends, IsStuck}
-use Rattle.rex_node.specs.Parts.{NodeValue, here_of, whole}
+use Rattle.rex_node.specs.Parts.{here_of, whole}
 use Rattle.rex_node.proofs.Ending.{HasCome, told, down, left, kept}
 use Rattle.rex_node.proofs.OwnPieces.{cut_ends, cut_short, if_then}
 use Rattle.rex_node.proofs.ProposedCuts.{on_error}

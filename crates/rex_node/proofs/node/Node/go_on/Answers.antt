@@ -1,4 +1,3 @@
-use Rattle.rex_node.specs.declared.going.Round.TheVariants.{Again, Done}
 use Rattle.rex_node.proofs.Written.{on_err}
 use Rattle.rex_node.proofs.Turns.{gone_again, gone_done, gone_none, gone_stuck, round_as}
 use Rattle.rex_node.proofs.node.Node.go_on.Goals as goal

@@ -1,5 +1,4 @@
 use Rattle.std.proofs.Common.{length, ap, arith}
-use Rattle.rex_node.specs.Parts.{NodeValue}
 use Rattle.rex_node.proofs.Deltas.{last_spelled}
 use Rattle.rex_node.proofs.Written.{on_err}
 use Rattle.rex_node.proofs.Knowing.{learn_settles, learn_parts, learn_down, learn_on, learn_stuck}

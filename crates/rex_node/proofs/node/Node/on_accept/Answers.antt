@@ -1,7 +1,6 @@
-use Rattle.std.proofs.Common.{◌<◌, ◌≤◌, Bool, ap, sym, arith, ◌∙◌}
+use Rattle.std.proofs.Common.{◌<◌, ◌≤◌, ap, sym, arith, ◌∙◌}
 use Rattle.rex_paxos.specs.Acceptor.{answer_to_accept}
 use Rattle.rex_paxos.specs.declared.answers.Asked.TheVariants as asked
-use Rattle.rex_node.specs.Parts.{NodeValue, whole}
 use Rattle.rex_node.proofs.Bases.{base_tells}
 use Rattle.rex_node.proofs.Promises.{accept_again, accept_old}
 use Rattle.rex_node.proofs.node.Node.on_accept.Goals as goal

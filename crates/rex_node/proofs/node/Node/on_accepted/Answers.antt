@@ -1,8 +1,6 @@
 use Rattle.std.proofs.Common.{[], ◌∷◌, ◌++◌, ap, sym, ◌∙◌}
-use Rattle.rex_report.specs.declared.effect.Effect.{Effect}
 use Rattle.rex_node.proofs.Votes.{vote_counted, vote_ignored, vote_one}
 use Rattle.rex_node.proofs.node.Node.on_accepted.Goals as goal
-use Rattle.rex_node.specs.Parts.{whole}
 
 pub returns-in_ok-tell-in-Ignored-clause-ends : goal.returns-in_ok-tell-in-Ignored-clause-ends
 returns-in_ok-tell-in-Ignored-clause-ends g c =

@@ -4,7 +4,7 @@ use Rattle.rex_cluster.specs.Lanes.{CallHere}
 use Rattle.rex_cluster.specs.Records.{known}
 use Rattle.rex_cluster.specs.Values.{service_of, values_fit}
 use Rattle.rex_log.specs.Messages.{content_in}
-use Rattle.rex_node.specs.Parts.{NodeValue, whole}
+use Rattle.rex_node.specs.Parts.{whole}
 use Rattle.rex_node.proofs.Ending.{HasCome, begins, told, down, left, kept}
 use Rattle.rex_node.proofs.Executing.{up_of}
 use Rattle.rex_node.proofs.Quiet.{receive_well, replies_quiet}

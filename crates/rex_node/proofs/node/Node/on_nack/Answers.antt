@@ -1,7 +1,6 @@
 use Rattle.std.proofs.Common.{sym, ◌∙◌}
 use Rattle.rex_node.proofs.Following.{nack_ignored, nack_follows}
 use Rattle.rex_node.proofs.node.Node.on_nack.Goals as goal
-use Rattle.rex_node.specs.Parts.{whole}
 
 pub returns-then-own-promised-clause-ends : goal.returns-then-own-promised-clause-ends
 returns-then-own-promised-clause-ends g c =

@@ -3,7 +3,7 @@ use Rattle.std.specs.Prelude.{map}
 use Rattle.rex_node.proofs.Counts.{counts_many, counts_to, promise_back, promise_ends, promise_free, ignored_same, promise_have, promise_ignored, promise_kept, promise_runs, promise_stuck, promise_turns}
 use Rattle.rex_node.proofs.node.Node.on_promise.Goals as goal
 use Rattle.rex_node.specs.Going.{IsStuck}
-use Rattle.rex_node.specs.Parts.{NodeValue, whole}
+use Rattle.rex_node.specs.Parts.{whole}
 use Rattle.rex_cluster.specs.Calls.{on_promise}
 use Rattle.rex_cluster.specs.Values.{service_of}
 use Rattle.rex_log.specs.Log.{proposal_in}
@@ -25,7 +25,7 @@ pub returns-in-Err-clause-stuck : goal.returns-in-Err-clause-stuck
 returns-in-Err-clause-stuck g c =
     let n = counts_to _ c.in_ok-why.ensures.vote c.in-NotYet.is in
     promise_back _ _ c.requires.node c.requires.up _ c.requires.from _ c.requires.reported _ n.counts.is n.counts.new
-     c.in_ok-why.ensures.counted c.take_back.ensures
+    c.in_ok-why.ensures.counted c.take_back.ensures
 
 pub go_on-requires-clause-kept : goal.go_on-requires-clause-kept
 go_on-requires-clause-kept g c =

@@ -1,11 +1,9 @@
 use Rattle.std.proofs.Common.{sym, subst, ◌∙◌}
-use Rattle.std.specs.Prelude.{Option}
 use Rattle.std.specs.Option.{option_copied}
 use Rattle.rex_event.specs.Cuts.{below}
 use Rattle.rex_cut.specs.Greatest.{greatest_cut}
 use Rattle.rex_node.specs.Calls.{RefusesThen, counts_for, refusal_of_none}
 use Rattle.rex_node.specs.Parts.{here_of, whole}
-use Rattle.rex_node.specs.declared.refusal.Refusal.{Refusal}
 use Rattle.rex_node.proofs.Executing.{up_of}
 use Rattle.rex_node.proofs.Dues.{can_make, refuses_node}
 use Rattle.rex_node.proofs.node.Node.piece.Goals as goal

@@ -3,7 +3,6 @@ use Rattle.std.specs.Prelude.{unwrap_or}
 use Rattle.rex_node.proofs.Written.{on_err}
 use Rattle.rex_node.proofs.Opening.{propose_spelled, propose_on, propose_down, propose_stuck}
 use Rattle.rex_node.proofs.node.Node.propose.Goals as goal
-use Rattle.rex_node.specs.Parts.{whole}
 
 pub append-requires-clause-spelling : goal.append-requires-clause-spelling
 append-requires-clause-spelling g c =

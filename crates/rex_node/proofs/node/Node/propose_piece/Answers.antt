@@ -1,6 +1,6 @@
 use Rattle.std.proofs.Common.{ap, sym, subst, ◌∙◌, IfOk, OnErr}
-use Rattle.rex_node.specs.Cutting.{ProposesCut, ProposesCutShort, ProposesPiece, ProposesPieceShort}
-use Rattle.rex_node.specs.Parts.{NodeValue, knows, whole}
+use Rattle.rex_node.specs.Cutting.{ProposesCut, ProposesPiece, ProposesPieceShort}
+use Rattle.rex_node.specs.Parts.{NodeValue, whole}
 use Rattle.rex_node.proofs.OwnPieces.{if_error, if_then, on_ok, own_cut, own_fits, piece_ends, piece_short}
 use Rattle.rex_node.proofs.ProposedCuts.{on_error}
 use Rattle.rex_node.proofs.node.Node.propose_piece.Goals as goal
@@ -37,7 +37,7 @@ returns-clause-stuck g c =
           (on_error _
           _ _
           (piece_short c.requires.node c.requires.can _ _ _ _ c.propose_value-end.new.draft
-           c.replace_cut-before.ensures.replaced c.as_slice.ensures c.replace_cut-before.ensures.before w.replace_cut.ensures.replaced)
+          c.replace_cut-before.ensures.replaced c.as_slice.ensures c.replace_cut-before.ensures.before w.replace_cut.ensures.replaced)
           c.propose_value-end.ensures.stuck)
       | else-is_err w ↦ on_ok _ _ (sym c.is_err.ensures.value ∙ w.if-is_err.false)
     ]

@@ -2,7 +2,6 @@ use Rattle.std.proofs.Common.{refl}
 use Rattle.rex_durable.specs.declared.records.Rec.TheVariants as kept
 use Rattle.rex_node.proofs.Promises.{appends_at, on_err_anyway, raise_down, raise_stuck, raise_on}
 use Rattle.rex_node.proofs.node.Node.raise.Goals as goal
-use Rattle.rex_node.specs.Parts.{whole}
 
 pub returns-in-Down-clause-ends : goal.returns-in-Down-clause-ends
 returns-in-Down-clause-ends g c =
@@ -27,4 +26,4 @@ pub returns-clause-ends : goal.returns-clause-ends
 returns-clause-ends g c =
     raise_on _ _ c.requires.node c.requires.up c.args.draft.now _ _ _ c.requires.ballot c.requires.late c.requires.above _ _
     (appends_at _ _ _ _ _ c.args.draft.now c.append.new.draft (kept.Promised c.args.ballot) refl c.in-On.is c.in_ok-append.ensures.appends)
-     c.in_ok-raised-in-On.ensures.raised c.in_ok-raised-in-On.ensures.told c.in_ok-promise-in-On.ensures
+    c.in_ok-raised-in-On.ensures.raised c.in_ok-raised-in-On.ensures.told c.in_ok-promise-in-On.ensures

@@ -1,9 +1,8 @@
-use Rattle.std.proofs.Common.{ℤ, SFits, w64, rules, ap, sym, ◌∙◌}
+use Rattle.std.proofs.Common.{SFits, w64, rules, ap, sym, ◌∙◌}
 use Rattle.std.proofs.lemmas.Int.{to_z-of_z}
-use Rattle.rex_reads.specs.declared.seen.Read.{Read}
 use Rattle.rex_reads.specs.Reads.{answered, seen_after}
 use Rattle.rex_cluster.specs.Reading.{value_in}
-use Rattle.rex_node.specs.Parts.{NodeValue, state_of, whole}
+use Rattle.rex_node.specs.Parts.{state_of}
 use Rattle.rex_node.proofs.Admitted.{read_is}
 use Rattle.rex_node.proofs.node.Node.read.Goals as goal
 

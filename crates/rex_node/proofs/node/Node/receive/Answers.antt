@@ -6,7 +6,6 @@ use Rattle.rex_cluster.specs.Values.{service_of}
 use Rattle.rex_cluster.proofs.TellNone.{receive_tells_none}
 use Rattle.rex_log.specs.Log.{first, proposal_in}
 use Rattle.rex_log.specs.Messages.{content_in}
-use Rattle.rex_msg.specs.declared.message.Content.{Content}
 use Rattle.rex_node.specs.Calls.{armed_with}
 use Rattle.rex_node.specs.Going.{IsStuck, so_far}
 use Rattle.rex_node.specs.Parts.{whole}

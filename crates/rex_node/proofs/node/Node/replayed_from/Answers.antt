@@ -1,7 +1,6 @@
 use Rattle.std.proofs.Common.{◌≡◌, ◌-◌, drop, IfOk, sym, ap, subst, ◌∙◌, arith}
-use Rattle.std.specs.Prelude.{Option, Some}
-use Rattle.rex_state.specs.Value.{StateValue}
-use Rattle.rex_node.specs.Parts.{NodeValue, count_of, whole}
+use Rattle.std.specs.Prelude.{Some}
+use Rattle.rex_node.specs.Parts.{count_of}
 use Rattle.rex_node.proofs.Knows.{drop_known, many_known}
 use Rattle.rex_node.proofs.ReplayLemmas.{from_sound, rest_runs, rest_runs_to}
 use Rattle.rex_node.proofs.node.Node.replayed_from.Goals as goal

@@ -1,6 +1,4 @@
-use Rattle.std.proofs.Common.{◌≡◌, ℕ, IfOk, List, sym, ap, subst, ◌∙◌}
-use Rattle.rex_cluster.specs.Values.{Value}
-use Rattle.rex_node.specs.Parts.{NodeValue, whole}
+use Rattle.std.proofs.Common.{◌≡◌, IfOk, sym, ap, subst, ◌∙◌}
 use Rattle.rex_node.specs.Telling.{last_held}
 use Rattle.rex_node.proofs.Admitted.{stamp_held}
 use Rattle.rex_node.proofs.Knows.{held_are}

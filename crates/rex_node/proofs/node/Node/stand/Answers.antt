@@ -3,7 +3,6 @@ use Rattle.rex_durable.specs.declared.records.Rec.TheVariants as kept
 use Rattle.rex_node.proofs.Candidates.{stand_down, stand_ends, stand_free, stand_kept, stand_runs, stand_short, stand_stuck, stand_turns}
 use Rattle.rex_node.proofs.Promises.{appends_at, on_err_anyway}
 use Rattle.rex_node.proofs.node.Node.stand.Goals as goal
-use Rattle.rex_node.specs.Parts.{whole}
 
 pub returns-in-Down-clause-ends : goal.returns-in-Down-clause-ends
 returns-in-Down-clause-ends g c =

@@ -1,6 +1,5 @@
 use Rattle.std.proofs.Common.{subst, ◌∙◌}
 use Rattle.std.proofs.lemmas.Result.{err_from_is_err_and}
-use Rattle.rex_node.specs.Parts.{NodeValue}
 use Rattle.rex_node.specs.Restarting.{IsRecalled, IsRestartFault, decoded_last}
 use Rattle.rex_node.proofs.Deltas.{known_good}
 use Rattle.rex_node.proofs.Reading.{only_memory}

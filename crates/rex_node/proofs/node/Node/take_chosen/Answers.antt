@@ -22,7 +22,7 @@ pub returns-clause-ends : goal.returns-clause-ends
 returns-clause-ends g c =
     chosen_on _ _ c.requires.node c.requires.up c.args.draft.now c.requires.instance c.requires.next c.requires.value _ _ c.requires.runs
     (appends_at _ _ _ _ _ c.args.draft.now c.append.new.draft _ (ap (kept.Known c.args.instance) c.in_ok-copied.ensures) c.in-On.is c.in_ok-append.ensures.appends)
-     c.in_ok-chosen-in-On.ensures.chosen c.in_ok-chosen-in-On.ensures.told
+    c.in_ok-chosen-in-On.ensures.chosen c.in_ok-chosen-in-On.ensures.told
 
 pub chosen-requires-clause-delta : goal.chosen-requires-clause-delta
 chosen-requires-clause-delta g c =

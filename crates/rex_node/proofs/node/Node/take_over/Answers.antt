@@ -1,10 +1,9 @@
-use Rattle.std.proofs.Common.{nat_lt, List, ◌∷◌, is_some, inl, length, ap, subst, ◌∙◌, arith}
+use Rattle.std.proofs.Common.{nat_lt, ◌∷◌, is_some, inl, length, ap, subst, ◌∙◌, arith}
 use Rattle.rex_durable.specs.declared.records.Rec.TheVariants as kept
-use Rattle.rex_node.specs.Parts.{NodeValue, leaving, role_of, whole}
+use Rattle.rex_node.specs.Parts.{leaving, role_of, whole}
 use Rattle.rex_node.specs.Going.{Tells}
 use Rattle.rex_node.specs.declared.going.Going.TheVariants.{On, Down}
 use Rattle.rex_paxos.specs.Acceptor.{forgetting}
-use Rattle.rex_report.specs.declared.effect.Effect.{Effect}
 use Rattle.rex_report.specs.declared.effect.Effect.TheVariants as effect
 use Rattle.rex_cluster.specs.Calls.{followed}
 use Rattle.rex_node.specs.Telling.{fallen_moved}

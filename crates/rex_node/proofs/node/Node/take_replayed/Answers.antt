@@ -1,8 +1,8 @@
-use Rattle.std.proofs.Common.{◌≡◌, [], ◌∷◌, Option, Some, ap, sym, subst, ◌∙◌}
+use Rattle.std.proofs.Common.{◌≡◌, [], ◌∷◌, Some, ap, sym, subst, ◌∙◌}
 use Rattle.std.proofs.lemmas.Bool.{ne_eqb}
 use Rattle.rex_report.specs.declared.effect.Effect.TheVariants.{Replayed}
 use Rattle.rex_node.specs.Calls.{Does}
-use Rattle.rex_node.specs.Parts.{NodeValue, ReachedValue, StaysNode, reached_at, whole}
+use Rattle.rex_node.specs.Parts.{StaysNode, reached_at, whole}
 use Rattle.rex_cluster.specs.Calls.{replay}
 use Rattle.rex_node.proofs.ReplayLemmas.{replay_does, replay_stays}
 use Rattle.rex_node.proofs.node.Node.take_replayed.Given as given

@@ -1,7 +1,6 @@
 use Rattle.std.proofs.Common.{sym, subst}
 use Rattle.rex_state.specs.Sound.{IsSound}
 use Rattle.rex_snapshot.specs.Spelling.{IsLimited}
-use Rattle.rex_node.specs.Parts.{NodeValue, whole}
 use Rattle.rex_node.proofs.Bases.{start_limited, start_sound}
 use Rattle.rex_node.proofs.node.Node.tell_base.Goals as goal
 

@@ -2,8 +2,7 @@ use Rattle.std.proofs.Common.{◌≡◌, ◌+◌, ◌-◌, Some, sym, ap, subst,
 use Rattle.std.specs.Prelude.{OnOk, slice_get}
 use Rattle.rex_transfer.specs.Window.{Looks}
 use Rattle.rex_msg.specs.declared.message.Content.TheVariants as sent
-use Rattle.rex_cluster.specs.Values.{Value}
-use Rattle.rex_node.specs.Parts.{NodeValue, count_of}
+use Rattle.rex_node.specs.Parts.{count_of}
 use Rattle.rex_node.specs.Going.{Sends, answering}
 use Rattle.rex_node.proofs.Knows.{many_known, must_hold, value_at}
 use Rattle.rex_node.proofs.node.Node.tell_one.Goals as goal

@@ -1,5 +1,4 @@
 use Rattle.std.proofs.Common.{ap, length, refl, subst, ◌∙◌}
-use Rattle.rex_traits.specs.Keeping.{KeeperValue}
 use Rattle.rex_world.specs.Calls.{ComesTo, call_at}
 use Rattle.rex_world.specs.World.{world_of}
 use Rattle.rex_world.proofs.Coming.{served_row}

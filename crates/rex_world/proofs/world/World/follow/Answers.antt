@@ -1,5 +1,5 @@
 use Rattle.std.proofs.Common.{◌+◌, drop, sym, ap, ◌∙◌, arith}
-use Rattle.rex_cluster.specs.World.{World as ModelWorld, after_lines}
+use Rattle.rex_cluster.specs.World.{after_lines}
 use Rattle.rex_world.specs.World.{world_of}
 use Rattle.rex_world.proofs.Runs.{done_next, drop_end, drop_next, still_of}
 use Rattle.rex_world.proofs.Traces.{follow_next}

@@ -1,6 +1,6 @@
-use Rattle.std.proofs.Common.{◌≡◌, ◌<◌, ℕ, Bool, true, length, take, refl, ◌∙◌, subst, arith}
+use Rattle.std.proofs.Common.{◌≡◌, ◌<◌, true, length, take, refl, ◌∙◌, subst, arith}
 use Rattle.std.specs.List.{list_all}
-use Rattle.rex_world.specs.World.{nodes_of, world_of}
+use Rattle.rex_world.specs.World.{nodes_of}
 use Rattle.rex_world.proofs.Handing.{handed_first, handed_next, flushed_all, over_as, same_both}
 use Rattle.rex_world.proofs.world.World.hand_all_over.Goals as goal
 
@@ -18,7 +18,7 @@ loop-place-preserved g c =
     let inside : c.loop-place.place < length c.args.self.now.handed.items = omega (arith, c.loop-place-test.true, c.len-count.ensures, c.args.self.now.handed.ok.0) in
     record {
       handed = handed_next _ _ _ _
-           inside i.running.kept.handed i.handed
+          inside i.running.kept.handed i.handed
           (over_as i.same c.in_ok-waited.ensures.did);
       running = c.in_ok-waited.ensures.running;
       same = same_both i.same c.in_ok-waited.ensures.same;
@@ -29,7 +29,7 @@ pub returns-clause-running : goal.returns-clause-running
 returns-clause-running g c =
     let i = c.loop-place.invariant in
     let f = flushed_all c.args.svc.now c.args.self.now.requests c.args.self.now.seed (nodes_of c.args.self.now)
-     i.handed in
+    i.handed in
     let e : c.loop-place.place ≡ c.len-count.result =
     omega (arith, c.loop-place-test.false, c.loop-place.auto.place-end, c.len-count.ensures, c.args.self.now.handed.ok.0, c.requires.running.flushed) in
     record { service_is = i.running.service_is; checked = i.running.checked; whole = i.running.whole; few = i.running.few; kept = i.running.kept; agreed = i.running.agreed; told = i.running.told; members = i.running.members; within = i.running.within; spelled = i.running.spelled; requests = i.running.requests; clients = i.running.clients; flushed = omega (arith, e, f.0); handed = subst (λ k. list_all (λ b. b) (take k c.loop-place.self.handed.items) ≡ true) e f.1 }

@@ -1,9 +1,7 @@
-use Rattle.std.proofs.Common.{◌≡◌, ℕ, ◌+◌, ◌++◌, List, [], drop, length, sym, ap, subst, ◌∙◌, arith, append-nil}
+use Rattle.std.proofs.Common.{◌+◌, ◌++◌, [], drop, length, sym, ap, subst, ◌∙◌, arith, append-nil}
 use Rattle.std.proofs.lemmas.Result.{on_ok_weaker}
 use Rattle.rex_traits.specs.Growth.{GrowsByFront}
-use Rattle.rex_report.specs.declared.effect.Effect.{Effect}
-use Rattle.rex_cluster.specs.World.{World as ModelWorld, after_lines, row}
-use Rattle.rex_world.specs.declared.world.World.{World}
+use Rattle.rex_cluster.specs.World.{after_lines, row}
 use Rattle.rex_world.specs.Kept.{IsRunning, IsSame}
 use Rattle.rex_world.specs.Report.{effects_text, ends_text, report_from}
 use Rattle.rex_world.specs.World.{nodes_of, world_of}
@@ -68,7 +66,7 @@ pub returns-clause-whole : goal.returns-clause-whole
 returns-clause-whole g c =
     on_ok_weaker c.write_ends.result
     (written_last
-     c.loop-line.invariant.written
+    c.loop-line.invariant.written
     (ap (report_from c.args.svc.now c.args.scenario.now.requests c.args.scenario.now.seed c.args.scenario.now.nodes (world_of c.args.svc.now c.loop-line.self))
     (drop_end c.as_slice-line-items.ensures c.loop-line-test.false)))
     c.write_ends.ensures.whole

@@ -1,5 +1,4 @@
 use Rattle.std.proofs.Common.{ap, length, refl, subst, ◌∙◌}
-use Rattle.rex_traits.specs.Keeping.{KeeperValue}
 use Rattle.rex_cluster.specs.Values.{service_of}
 use Rattle.rex_world.specs.Calls.{ComesTo}
 use Rattle.rex_world.specs.World.{world_of}

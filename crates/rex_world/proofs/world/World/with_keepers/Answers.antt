@@ -1,6 +1,5 @@
-use Rattle.std.proofs.Common.{List, refl, subst, sym}
+use Rattle.std.proofs.Common.{refl, subst, sym}
 use Rattle.std.specs.List.{All}
-use Rattle.rex_syntax.specs.declared.request.Request.{Request}
 use Rattle.rex_schedule.specs.Fits.{RequestFits}
 use Rattle.rex_world.proofs.Beginning.{few_nodes, new_running}
 use Rattle.rex_world.proofs.world.World.with_keepers.Goals as goal
