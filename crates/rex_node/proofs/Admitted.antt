@@ -1,15 +1,8 @@
 -- What a client is told that reads a variable at a node, or that a release gives.
-use Rattle.std.proofs.Common.{arith, ◌≡◌, ℕ, ◌≤◌, max, Bool, true, false, List, Option, Some, None, refl, sym, ap, ◌∙◌}
-use Rattle.std.specs.Prelude.{ℤ, drop, is_some, take}
-use Rattle.rex_syntax.specs.declared.service.Declarations.{Declarations}
-use Rattle.rex_reads.specs.Reads.{answered}
-use Rattle.rex_cluster.specs.Records.{known}
-use Rattle.rex_cluster.specs.Node.{is_active}
-use Rattle.rex_cluster.specs.Values.{Value, state_after, trace_of}
-use Rattle.rex_cluster.specs.Reading.{last_reply, read_at, stamp_at, value_in}
-use Rattle.rex_cluster.proofs.Replies.{state_is}
-use Rattle.rex_node.specs.Parts.{ActingValue, IsResting, IsUp, NodeValue, here_of, state_of}
-use Rattle.rex_node.specs.Telling.{last_held}
+use Rattle.rex_node.proofs.Common.{arith, ◌≡◌, ℕ, ◌≤◌, Bool, true, false, List, Option, Some, None, refl, sym, ap, ◌∙◌, ℤ, is_some, Declarations, answered, known, is_active, Value, state_after, trace_of, last_reply, value_in, state_is, ActingValue, IsResting, IsUp, NodeValue, here_of, state_of, last_held}
+use Rattle.std.proofs.Common.{max}
+use Rattle.std.specs.Prelude.{drop, take}
+use Rattle.rex_cluster.specs.Reading.{read_at, stamp_at}
 use Rattle.rex_node.proofs.Appended.{logged_of}
 use Rattle.rex_node.proofs.Leaving.{role_active}
 use Rattle.rex_node.proofs.Stamping.{held_last}

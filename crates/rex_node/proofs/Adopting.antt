@@ -1,51 +1,14 @@
 -- A node that goes on adopts the value that was reported for the next instance; alone it knows it at once.
-use Rattle.std.proofs.Common.{◌≡◌, ℕ, zero, suc, ◌+◌, ◌-◌, ◌*◌, ◌^◌, ◌<◌, ◌≤◌, Bool, true, false, cond, not, ◌&&◌, List, [], ◌∷◌, ◌++◌, length, inl, inr, Option, Some, None, refl, sym, ap, subst, ◌∙◌, arith}
-use Rattle.std.specs.Prelude.{map, is_some, is_none, nat_lt, option_map, IfSome, IsSome}
-use Rattle.std.specs.List.{All}
-use Rattle.std.proofs.lemmas.Bool.{and_parts, le-ltb, lt-ltb}
-use Rattle.std.proofs.lemmas.Option.{same_Some}
+use Rattle.rex_node.proofs.Common.{◌≡◌, ℕ, zero, suc, ◌+◌, ◌-◌, ◌*◌, ◌^◌, ◌<◌, ◌≤◌, Bool, true, false, cond, not, ◌&&◌, List, [], ◌∷◌, ◌++◌, length, inl, inr, Option, Some, None, refl, sym, ap, subst, ◌∙◌, arith, map, is_some, is_none, nat_lt, option_map, IfSome, IsSome, All, and_parts, le-ltb, lt-ltb, same_Some, most_nodes, Kept, IsValue, accepting, AreCounted, ProposerValue, is_candidate, proposed, closed, IsBest, best_for, counted_none, counted_push, Declarations, IsService, IsChecked, StateValue, Answer, Effect, Rec, Proposal, proposal_of, known, Failure, Lead, Role, Service, After, Leading, is_majority, LeadFits, RoleFits, length_push, Call, append, best, choose, decide, lead, leading, learned, led, logged, others, propose, send, settle, turn, Chose, Known, Value, events_of, service_of, values_fit, CallHere, Going, On, Down, Again, Done, Draft, proposal_in, NodeValue, ActingValue, IsCutAt, IsKept, HasDecoded, HasGoneOn, IsResting, IsProposer, IsSame, IsUp, Proposes, here_of, lead_of, open_of, role_of, IsDown, armed_with, BreaksOff, Comes, Fell, IsStuck, Leads, LosesFirst, MayGoOn, RunsOn, above, so_far, FromLead, GoesRound, IsFree, accept_own, knowing, HasLearned, HasOpened, IsOwnCut, Learns, LearnsShort, Opens, OpensShort, goes_on, may_lead, opened, reported_value, settling}
 use Rattle.std.proofs.lemmas.List.Elements.{All-contains, Contains-append_right}
-use Rattle.rex_ballot.specs.Limits.{most_nodes}
-use Rattle.rex_ballot.specs.declared.proposal.Proposal.{Proposal as Kept}
 use Rattle.rex_ballot.specs.Ballot as ballots
-use Rattle.rex_ballot.specs.Proposals.{IsValue}
-use Rattle.rex_paxos.specs.Acceptor.{accepting}
 use Rattle.rex_paxos.specs.Counting as counting
-use Rattle.rex_paxos.specs.Counting.{AreCounted}
-use Rattle.rex_paxos.specs.Proposer.{ProposerValue, is_candidate, proposed, closed}
-use Rattle.rex_paxos.specs.Reports.{IsBest, best_for}
-use Rattle.rex_paxos.proofs.Counted.{counted_none, counted_push}
 use Rattle.rex_paxos.proofs.Reports as reports
-use Rattle.rex_syntax.specs.declared.service.Declarations.{Declarations}
-use Rattle.rex_syntax.specs.Service.{IsService}
-use Rattle.rex_syntax.specs.Check.{IsChecked}
-use Rattle.rex_state.specs.Value.{StateValue}
-use Rattle.rex_traits.specs.Chains.{Answer}
-use Rattle.rex_report.specs.declared.effect.Effect.{Effect}
 use Rattle.rex_report.specs.declared.effect.Effect.TheVariants as effect
-use Rattle.rex_cluster.specs.Records.{Rec, Proposal, proposal_of, known}
-use Rattle.rex_cluster.specs.Node.{Failure, Lead, Role, Service}
-use Rattle.rex_cluster.specs.Node.Failure.{After}
-use Rattle.rex_cluster.specs.Node.Role.{Leads as Leading}
-use Rattle.rex_cluster.specs.Quorum.{is_majority}
 use Rattle.rex_cluster.specs.Ranges as ranges
-use Rattle.rex_cluster.specs.Ranges.{LeadFits, RoleFits}
-use Rattle.rex_cluster.proofs.Lists.{BestOk, best_ok, length_push}
-use Rattle.rex_cluster.specs.Calls.{Call, append, best, choose, decide, lead, leading, learned, led, logged, others, propose, send, settle, turn}
-use Rattle.rex_cluster.specs.Node.Content.{Chosen as Chose}
-use Rattle.rex_cluster.specs.Records.Rec.{Known}
-use Rattle.rex_cluster.specs.Values.{Value, events_of, service_of, values_fit}
-use Rattle.rex_cluster.specs.Lanes.{CallHere}
+use Rattle.rex_cluster.proofs.Lists.{BestOk, best_ok}
 use Rattle.rex_cluster.proofs.Stopping as stopping
-use Rattle.rex_node.specs.declared.going.Going.{Going}
-use Rattle.rex_node.specs.declared.going.Going.TheVariants.{On, Down}
-use Rattle.rex_node.specs.declared.going.Round.TheVariants.{Again, Done}
-use Rattle.rex_node.specs.declared.step.Draft.{Draft}
-use Rattle.rex_log.specs.Log.{proposal_in}
-use Rattle.rex_node.specs.Parts.{NodeValue, ActingValue, IsCutAt, IsKept, HasDecoded, HasGoneOn, IsResting, IsProposer, IsSame, IsUp, Proposes, here_of, lead_of, open_of, role_of, IsDown}
-use Rattle.rex_node.specs.Calls.{armed_with}
-use Rattle.rex_node.specs.Going.{BreaksOff, Comes, Fell, IsStuck, Leads, LosesFirst, MayGoOn, RunsOn, above, so_far}
-use Rattle.rex_node.specs.Leading.{FromLead, GoesRound, IsFree, IsLonger, accept_own, knowing, HasLearned, HasOpened, IsOwnCut, Learns, LearnsShort, Opens, OpensShort, goes_on, may_lead, opened, reported_value, settling}
+use Rattle.rex_node.specs.Leading.{IsLonger}
 use Rattle.rex_node.proofs.Appended.{beside_of, fits_instance}
 use Rattle.rex_node.proofs.Bridges as bridges
 use Rattle.rex_node.proofs.Grows.{fits_before, rest_runs, settle_learns}

@@ -1,14 +1,9 @@
 -- The events that are read alone are those of the delta.
-use Rattle.std.proofs.Common.{◌≡◌, ℕ, List, ◌++◌, Result, Ok, Err, refl, sym, append-nil}
-use Rattle.std.proofs.lemmas.List.Elements.{All-nil}
-use Rattle.rex_event.specs.declared.delta.Delta.{Delta}
-use Rattle.rex_event.specs.declared.event.Event.{Event}
+use Rattle.rex_node.proofs.Common.{◌≡◌, ℕ, List, ◌++◌, Result, Ok, Err, refl, sym, append-nil, All-nil, Delta, Event, behind_of, delta_in, Value, events_of, read_delta}
 use Rattle.rex_state.specs.Counts.{AreCounted}
 use Rattle.rex_wire.proofs.Fields.{IsBytes}
-use Rattle.rex_delta.specs.Alone.{behind_of, events_of as its_events}
-use Rattle.rex_delta.specs.Reading.{delta_in}
+use Rattle.rex_delta.specs.Alone.{events_of as its_events}
 use Rattle.rex_delta.proofs.EventLaws.{delta_found}
-use Rattle.rex_cluster.specs.Values.{Value, events_of, read_delta}
 use Rattle.rex_node.proofs.Spelled.{spelled_counted}
 
 pub read_events : (r : Result Delta ℕ) {es : List Event} → its_events r ≡ Ok es → es ≡ (read_delta r).events

@@ -1,41 +1,12 @@
 -- What stays of a node in memory, and what changes, where one record more is kept.
-use Rattle.std.proofs.Common.{◌≡◌, ℕ, suc, ◌<◌, ◌≤◌, Bool, true, false, List, [], ◌∷◌, ◌++◌, length, take, Option, Some, None, refl, sym, ap, subst, ◌∙◌, arith, le_trans}
-use Rattle.std.specs.Prelude.{map, max, is_some, if◌then◌else◌}
+use Rattle.rex_node.proofs.Common.{◌≡◌, ℕ, suc, ◌<◌, ◌≤◌, Bool, true, false, List, [], ◌∷◌, ◌++◌, length, take, Option, Some, None, refl, sym, ap, subst, ◌∙◌, arith, le_trans, map, max, is_some, if◌then◌else◌, take-append-le, All-append, All-cons, All-filter, Kept, IsValue, promising, accepting, Declarations, StateValue, start_of, run, KeptRec, HasSpelling, IsDue, record_bytes, Effect, Answer, Rec, placed, promise, last_accepted, accepted, offset, known, base, has_old_base, Promised, Accepted, Known, AreRising, RoleFits, Message, Failure, down_node, append, logged, Here, CallHere, Value, trace_of, values_fit, length_push, accepted_rising, Draft, On, Down, message_in, armed_with, Leads, Fell, Appends, so_far, log_of, rec_of, proposal_in, standing_in, failed_records, fallen, NodeValue, IsActing, IsProposer, HasStamps, IsUp, AreShort, here_of, state_of, is_stated, log_then}
 use Rattle.std.proofs.Math.Nat.{max_comm}
-use Rattle.std.proofs.lemmas.List.{take-append-le}
-use Rattle.std.proofs.lemmas.List.Elements.{All-append, All-cons, All-filter}
-use Rattle.rex_ballot.specs.declared.proposal.Proposal.{Proposal as Kept}
 use Rattle.rex_ballot.specs.Ballot as ballots
-use Rattle.rex_ballot.specs.Proposals.{AreRising as IsRising, IsValue, above, below}
-use Rattle.rex_paxos.specs.Acceptor.{promising, accepting}
-use Rattle.rex_syntax.specs.declared.service.Declarations.{Declarations}
-use Rattle.rex_state.specs.Value.{StateValue}
-use Rattle.rex_state.specs.Start.{start_of}
-use Rattle.rex_state.specs.Machine.{run}
-use Rattle.rex_durable.specs.declared.records.Rec.{Rec as KeptRec}
-use Rattle.rex_durable.specs.Spelling.{HasSpelling, IsDue, record_bytes}
-use Rattle.rex_report.specs.declared.effect.Effect.{Effect}
+use Rattle.rex_ballot.specs.Proposals.{AreRising as IsRising, above, below}
 use Rattle.rex_report.specs.declared.effect.Effect.TheVariants as effect
-use Rattle.rex_traits.specs.Chains.{Answer}
-use Rattle.rex_cluster.specs.Records.{Rec, placed, promise, last_accepted, accepted, offset, known, base, has_old_base}
-use Rattle.rex_cluster.specs.Records.Rec.{Promised, Accepted, Known}
-use Rattle.rex_cluster.specs.Ranges.{IsBallot, IsInstance, AreRising, LogFits, RoleFits}
-use Rattle.rex_cluster.specs.Node.{Message, Failure, down_node}
-use Rattle.rex_cluster.specs.Calls.{append, logged}
-use Rattle.rex_cluster.specs.Lanes.{Here, CallHere}
-use Rattle.rex_cluster.specs.Values.{Value, trace_of, values_fit}
-use Rattle.rex_cluster.proofs.Lists.{length_push}
-use Rattle.rex_cluster.proofs.Ranged.{accepted_rising, log_promised, log_accepted, log_known}
-use Rattle.rex_node.specs.declared.step.Draft.{Draft}
-use Rattle.rex_node.specs.declared.going.Going.TheVariants.{On, Down}
-use Rattle.rex_log.specs.Messages.{message_in}
-use Rattle.rex_node.specs.Calls.{armed_with}
-use Rattle.rex_node.specs.Going.{Leads, Fell, Appends, so_far}
-use Rattle.rex_log.specs.Log.{log_of, rec_of, proposal_in, standing_in}
-use Rattle.rex_node.specs.Parts.{failed_records, fallen, NodeValue, IsActing, IsProposer, HasStamps, IsUp, AreShort, here_of, state_of}
-use Rattle.rex_node.specs.Stated.{is_stated}
+use Rattle.rex_cluster.specs.Ranges.{IsBallot, IsInstance, LogFits}
+use Rattle.rex_cluster.proofs.Ranged.{log_promised, log_accepted, log_known}
 use Rattle.rex_node.proofs.GoingLemmas.{leads_append, fell_append}
-use Rattle.rex_log.proofs.Pasts.{log_then}
 use Rattle.rex_node.proofs.Instances.{rising_zero, placed_from, placed_kept}
 
 -- the ranges of a node's numbers are the model's

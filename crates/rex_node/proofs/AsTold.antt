@@ -1,20 +1,7 @@
 -- What a message that tells a state adds to the records.
-use Rattle.std.proofs.Common.{◌≡◌, ℕ, ◌<◌, ◌≤◌, ◌⊎◌, inl, inr, Bool, true, false, List, Result, Ok, Err, refl, sym, ap, subst}
-use Rattle.std.proofs.lemmas.Bool.{cases_lt}
+use Rattle.rex_node.proofs.Common.{◌≡◌, ℕ, ◌<◌, ◌≤◌, ◌⊎◌, inl, inr, Bool, true, false, List, Result, Ok, Err, refl, sym, ap, subst, cases_lt, AllocError, Content, record_bytes, Transferred, Answer, Going, On, Down, Refusal, Draft, Step, Appends, Finishes, NodeValue, failed_records}
 use Rattle.std.specs.Prelude.{length}
-use Rattle.std.specs.declared.alloc.AllocError.{AllocError}
-use Rattle.rex_msg.specs.declared.message.Content.{Content}
 use Rattle.rex_msg.specs.declared.message.Content.TheVariants as sent
-use Rattle.rex_durable.specs.Spelling.{record_bytes}
-use Rattle.rex_durable.specs.declared.records.Rec.TheVariants.{Transferred}
-use Rattle.rex_traits.specs.Chains.{Answer}
-use Rattle.rex_node.specs.declared.going.Going.{Going}
-use Rattle.rex_node.specs.declared.going.Going.TheVariants.{On, Down}
-use Rattle.rex_node.specs.declared.refusal.Refusal.{Refusal}
-use Rattle.rex_node.specs.declared.step.Draft.{Draft}
-use Rattle.rex_node.specs.declared.step.Step.{Step}
-use Rattle.rex_node.specs.Going.{Appends, Finishes}
-use Rattle.rex_node.specs.Parts.{NodeValue, failed_records}
 use Rattle.rex_node.specs.Telling.{KeepsAsTold}
 
 -- the same records hold none more

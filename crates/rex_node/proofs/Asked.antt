@@ -1,23 +1,11 @@
 -- The chosen values that a node is asked for, in their order.
-use Rattle.std.proofs.Common.{◌≡◌, ℕ, zero, suc, ◌+◌, ◌-◌, ◌<◌, ◌≤◌, ◌⊎◌, inl, inr, cond, List, [], ◌∷◌, ◌++◌, length, get_or, take, drop, refl, sym, ap, subst, ◌∙◌, arith, le-leb, min}
-use Rattle.std.proofs.lemmas.Bool.{lt-leb}
-use Rattle.std.proofs.lemmas.List.{get_or-drop, length-drop, take_all}
+use Rattle.rex_node.proofs.Common.{◌≡◌, ℕ, zero, suc, ◌+◌, ◌-◌, ◌<◌, ◌≤◌, ◌⊎◌, inl, inr, cond, List, [], ◌∷◌, ◌++◌, length, get_or, take, drop, refl, sym, ap, subst, ◌∙◌, arith, min, lt-leb, take_all, map, append-nil, append_assoc, map-append, All-append, All-cons, All-nil, Declarations, Value, Draft, message_in, Sends, answering, AreTold, IsTold, Message, tell}
+use Rattle.std.proofs.Common.{le-leb}
+use Rattle.std.proofs.lemmas.List.{get_or-drop, length-drop}
 use Rattle.std.proofs.Math.Seq.{take-suc}
-use Rattle.std.specs.Prelude.{map}
-use Rattle.std.proofs.Common.{append-nil, append_assoc}
-use Rattle.std.proofs.lemmas.List.{map-append}
-use Rattle.std.proofs.lemmas.List.Elements.{All-append, All-cons, All-nil}
-use Rattle.rex_syntax.specs.declared.service.Declarations.{Declarations}
 use Rattle.rex_msg.specs.declared.message.Message.{Message as Sent}
 use Rattle.rex_msg.specs.declared.message.Content.TheVariants as sent
-use Rattle.rex_cluster.specs.Values.{Value}
-use Rattle.rex_node.specs.declared.step.Draft.{Draft}
-use Rattle.rex_log.specs.Messages.{message_in}
-use Rattle.rex_node.specs.Going.{Sends, answering}
-use Rattle.rex_node.specs.Telling.{AreTold, IsTold}
-use Rattle.rex_cluster.specs.Node.{Message}
 use Rattle.rex_cluster.specs.Node.Content.{Chosen}
-use Rattle.rex_cluster.specs.Calls.{tell}
 
 take_none : {A : Type 0} (xs : List A) → take zero xs ≡ []
 take_none [] = refl

@@ -1,30 +1,8 @@
 -- The state at its base is what a node tells that doesn't hold the values any more.
-use Rattle.std.proofs.Common.{◌≡◌, ℕ, ◌≤◌, List, [], ◌++◌, take, length, sym, ap, ◌∙◌, subst, arith, le_trans, length-append}
-use Rattle.std.proofs.lemmas.List.{take-append-le}
-use Rattle.std.proofs.lemmas.List.Elements.{All-cons, All-nil}
-use Rattle.rex_syntax.specs.declared.service.Declarations.{Declarations}
-use Rattle.rex_syntax.specs.Service.{IsService}
-use Rattle.rex_syntax.specs.Check.{IsChecked}
-use Rattle.rex_state.specs.Sound.{IsSound}
-use Rattle.rex_state.proofs.Sounds.{run_keeps, start_keeps}
-use Rattle.rex_snapshot.specs.Spelling.{IsLimited}
-use Rattle.rex_msg.specs.declared.message.Content.{Content}
-use Rattle.rex_state.specs.Start.{start_of}
-use Rattle.rex_state.specs.Machine.{run}
+use Rattle.rex_node.proofs.Common.{◌≡◌, ℕ, ◌≤◌, List, [], ◌++◌, take, length, sym, ap, ◌∙◌, subst, arith, le_trans, length-append, take-append-le, All-cons, All-nil, Declarations, IsService, IsChecked, IsSound, run_keeps, start_keeps, IsLimited, Content, start_of, run, base, known, Snapshot, answer, answer_base, send, Begins, Value, trace_of, first, content_in, first_take, Draft, NodeValue, IsUp, here_of, Sends, TellsBase, answering, so_far, AreTold, IsTold}
 use Rattle.rex_msg.specs.declared.message.Content.TheVariants as sent
-use Rattle.rex_cluster.specs.Records.{base, known}
-use Rattle.rex_cluster.specs.Node.Content.{Snapshot}
-use Rattle.rex_cluster.specs.Calls.{answer, answer_base, send}
-use Rattle.rex_cluster.specs.Invariant.{Begins}
-use Rattle.rex_cluster.specs.Values.{Value, trace_of}
-use Rattle.rex_log.specs.Log.{first}
-use Rattle.rex_log.specs.Messages.{content_in}
-use Rattle.rex_log.proofs.Firsts.{first_take}
 use Rattle.rex_log.proofs.Pasts.{state_told}
-use Rattle.rex_node.specs.declared.step.Draft.{Draft}
-use Rattle.rex_node.specs.Parts.{NodeValue, IsUp, here_of}
-use Rattle.rex_node.specs.Going.{Sends, TellsBase, answering, so_far}
-use Rattle.rex_node.specs.Telling.{AreTold, IsTold, TellsState}
+use Rattle.rex_node.specs.Telling.{TellsState}
 use Rattle.rex_node.proofs.Appended.{logged_of}
 use Rattle.rex_node.proofs.Recorded.{sends_to}
 use Rattle.rex_node.proofs.Saved.{front_limited}

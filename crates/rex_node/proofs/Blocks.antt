@@ -1,19 +1,9 @@
 -- A block that an active node is handed leads where its events do, handed in one after the other.
-use Rattle.std.proofs.Common.{◌≡◌, ℕ, List, [], ◌∷◌, length, Option, Some, None, refl, ap, sym, subst, ◌∙◌}
-use Rattle.rex_syntax.specs.declared.service.Declarations.{Declarations}
-use Rattle.rex_syntax.specs.Service.{IsService}
-use Rattle.rex_event.specs.declared.event.Event.{Event}
-use Rattle.rex_record.specs.Take.{taken_turn}
+use Rattle.rex_node.proofs.Common.{◌≡◌, ℕ, List, [], ◌∷◌, length, Option, Some, None, refl, ap, sym, subst, ◌∙◌, Declarations, IsService, Event, taken_turn, begin, Refusal, LeadsTo, if_up, ActingValue, NodeValue, IsResting, StaysResting, here_of, given, Value}
 use Rattle.rex_record.proofs.Takes.{taken_keeps}
-use Rattle.rex_cluster.specs.Calls.{begin}
 use Rattle.rex_cluster.specs.Takes as takes
-use Rattle.rex_node.specs.declared.refusal.Refusal.{Refusal}
 use Rattle.rex_node.specs.Blocks.{take_each, given_all}
-use Rattle.rex_node.specs.Calls.{LeadsTo, if_up}
-use Rattle.rex_node.specs.Parts.{ActingValue, NodeValue, IsResting, StaysResting, here_of}
-use Rattle.rex_node.specs.Submitting.{given}
 use Rattle.rex_node.proofs.Executing.{has, given_of_node, given_leads, given_stays}
-use Rattle.rex_cluster.specs.Values.{Value}
 
 -- what is executed after one event that is handed in
 abbrev next_work : Declarations → ActingValue → Event → ActingValue

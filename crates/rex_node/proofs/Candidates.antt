@@ -1,50 +1,15 @@
 -- A node that asks to lead does as the model's.
-use Rattle.std.proofs.Common.{◌≡◌, ℕ, suc, ◌+◌, ◌*◌, ◌<◌, ◌≤◌, Bool, true, false, cond, List, [], ◌∷◌, ◌++◌, length, take, Result, Ok, Err, Option, Some, None, inr, refl, sym, ap, subst, ◌∙◌, arith, le_refl, add-one}
-use Rattle.std.specs.Prelude.{map, nat_lt, is_some, IfOk, OnErr, IfSome}
-use Rattle.std.specs.declared.alloc.AllocError.{AllocError}
-use Rattle.std.proofs.lemmas.Bool.{false≢true}
-use Rattle.std.proofs.lemmas.List.{length-map}
-use Rattle.std.proofs.lemmas.List.Elements.{All-filter}
-use Rattle.rex_ballot.specs.declared.proposal.Proposal.{Proposal as Kept}
+use Rattle.rex_node.proofs.Common.{◌≡◌, ℕ, suc, ◌+◌, ◌*◌, ◌<◌, ◌≤◌, Bool, true, false, cond, List, [], ◌∷◌, ◌++◌, length, take, Result, Ok, Err, Option, Some, None, inr, refl, sym, ap, subst, ◌∙◌, arith, le_refl, map, nat_lt, is_some, IfOk, OnErr, IfSome, AllocError, false≢true, length-map, All-filter, Kept, IsValue, promising, IsOneOf, ProposerValue, counted_none, counted_push, Declarations, StateValue, start_of, run, HasSpelling, record_bytes, Answer, Rec, Proposal, promise, accepted, from_on, known, Promised, ballot_above, round_of, Failure, Lead, Follower, Leading, Prepare, LeadFits, append, begin, elect, enough, logged, others, own_reports, say, send, settle, stand, with_role, Value, service_of, trace_of, Here, CallHere, length_push, Going, On, Down, Draft, content_in, message_in, Refusal, Step, armed_with, if_up, IsFree, Appends, Ends, Finishes, IsStuck, Leads, LosesFirst, RunsOn, above, so_far, log_of, proposal_in, NodeValue, IsKept, IsResting, IsSame, IsUp, Proposes, here_of, lead_of}
+use Rattle.std.proofs.Common.{add-one}
 use Rattle.rex_ballot.specs.Ballot.{IsLeastAbove, ballot_left}
-use Rattle.rex_ballot.specs.Proposals.{IsValue}
 use Rattle.rex_msg.specs.declared.message.Content.TheVariants as sent
-use Rattle.rex_paxos.specs.Acceptor.{promising}
-use Rattle.rex_paxos.specs.Counting.{IsOneOf}
-use Rattle.rex_paxos.specs.Proposer.{ProposerValue, IsOwnBallot}
-use Rattle.rex_paxos.proofs.Counted.{counted_none, counted_push}
-use Rattle.rex_syntax.specs.declared.service.Declarations.{Declarations}
-use Rattle.rex_state.specs.Value.{StateValue}
-use Rattle.rex_state.specs.Start.{start_of}
-use Rattle.rex_state.specs.Machine.{run}
+use Rattle.rex_paxos.specs.Proposer.{IsOwnBallot}
 use Rattle.rex_durable.specs.declared.records.Rec.TheVariants as kept
-use Rattle.rex_durable.specs.Spelling.{HasSpelling, record_bytes}
 use Rattle.rex_report.specs.declared.effect.Effect.TheVariants as effect
-use Rattle.rex_traits.specs.Chains.{Answer}
-use Rattle.rex_cluster.specs.Records.{Rec, Proposal, promise, accepted, from_on, known}
-use Rattle.rex_cluster.specs.Records.Rec.{Promised}
-use Rattle.rex_cluster.specs.Quorum.{ballot_above, round_of}
-use Rattle.rex_cluster.specs.Node.{Failure, Lead}
-use Rattle.rex_cluster.specs.Node.Role.{Follower, Leads as Leading}
-use Rattle.rex_cluster.specs.Node.Content.{Prepare}
-use Rattle.rex_cluster.specs.Ranges.{LeadFits}
-use Rattle.rex_cluster.specs.Calls.{append, begin, candidacy, elect, enough, logged, others, own_reports, say, send, settle, stand, with_role}
-use Rattle.rex_cluster.specs.Values.{Value, service_of, trace_of}
-use Rattle.rex_cluster.specs.Lanes.{Here, CallHere}
-use Rattle.rex_cluster.proofs.Lists.{in_from_on, length_push}
+use Rattle.rex_cluster.specs.Calls.{candidacy}
+use Rattle.rex_cluster.proofs.Lists.{in_from_on}
 use Rattle.rex_cluster.proofs.Ranged.{accepted_fit}
-use Rattle.rex_node.specs.declared.going.Going.{Going}
-use Rattle.rex_node.specs.declared.going.Going.TheVariants.{On, Down}
-use Rattle.rex_node.specs.declared.step.Draft.{Draft}
-use Rattle.rex_log.specs.Messages.{content_in, message_in}
-use Rattle.rex_node.specs.declared.refusal.Refusal.{Refusal}
-use Rattle.rex_node.specs.declared.step.Step.{Step}
-use Rattle.rex_node.specs.Calls.{armed_with, if_up}
-use Rattle.rex_node.specs.Leading.{IsFree}
 use Rattle.rex_node.specs.Electing.{candidate_of, standing}
-use Rattle.rex_node.specs.Going.{Appends, Ends, Finishes, IsStuck, Leads, LosesFirst, RunsOn, above, so_far}
-use Rattle.rex_log.specs.Log.{log_of, proposal_in}
-use Rattle.rex_node.specs.Parts.{NodeValue, IsKept, IsResting, IsSame, IsUp, Proposes, here_of, lead_of}
 use Rattle.rex_node.proofs.Appended.{Beside, IsLogged, appended_here, appended_leads, appended_log, ballot_fits, beside_of, call_at, logged_of, logged_promised, up_of}
 use Rattle.rex_node.proofs.Bridges.{left_is}
 use Rattle.rex_node.proofs.Continuing.{ends_if}

@@ -1,30 +1,10 @@
 -- What a node does on a chosen value.
-use Rattle.std.proofs.Common.{◌≡◌, ℕ, suc, ◌<◌, ◌≤◌, true, List, [], ◌∷◌, ◌++◌, length, take, Option, None, refl, sym, ap, subst, ◌∙◌, arith}
-use Rattle.std.specs.Prelude.{map, is_some, cond, nat_lt}
-use Rattle.std.proofs.lemmas.Bool.{eq-eqb, le-ltb, lt-ltb, lt-leb, le-leb}
-use Rattle.std.proofs.lemmas.List.{take-append-le}
-use Rattle.rex_ballot.specs.Ballot.{IsInstance}
-use Rattle.rex_ballot.specs.Proposals.{IsValue}
-use Rattle.rex_syntax.specs.declared.service.Declarations.{Declarations}
+use Rattle.rex_node.proofs.Common.{◌≡◌, ℕ, suc, ◌<◌, ◌≤◌, true, List, [], ◌∷◌, ◌++◌, length, take, Option, None, refl, sym, ap, subst, ◌∙◌, arith, map, is_some, nat_lt, le-ltb, lt-ltb, lt-leb, le-leb, take-append-le, IsInstance, IsValue, Declarations, HasSpelling, IsDue, record_bytes, Answer, known, offset, Known, Failure, answer_base, append, follow, followed, on_chosen, say, send, tell, Begins, Value, values_fit, CallHere, length_push, Draft, On, Down, message_in, armed_with, Appends, Fell, IsStuck, RunsOn, Tells, TellsBase, so_far, log_of, standing_in, NodeValue, IsUp, IsResting, here_of, leaving, role_of, IsDown}
+use Rattle.std.specs.Prelude.{cond}
+use Rattle.std.proofs.lemmas.Bool.{eq-eqb}
 use Rattle.rex_durable.specs.declared.records.Rec.TheVariants as kept
-use Rattle.rex_durable.specs.Spelling.{HasSpelling, IsDue, record_bytes}
 use Rattle.rex_report.specs.declared.effect.Effect.TheVariants as effect
-use Rattle.rex_traits.specs.Chains.{Answer}
-use Rattle.rex_cluster.specs.Records.{known, offset}
-use Rattle.rex_cluster.specs.Records.Rec.{Known}
-use Rattle.rex_cluster.specs.Node.{Failure}
-use Rattle.rex_cluster.specs.Calls.{answer_base, append, follow, followed, on_ask, on_chosen, say, send, tell}
-use Rattle.rex_cluster.specs.Invariant.{Begins}
-use Rattle.rex_cluster.specs.Values.{Value, values_fit}
-use Rattle.rex_cluster.specs.Lanes.{CallHere}
-use Rattle.rex_cluster.proofs.Lists.{length_push}
-use Rattle.rex_node.specs.declared.step.Draft.{Draft}
-use Rattle.rex_node.specs.declared.going.Going.TheVariants.{On, Down}
-use Rattle.rex_log.specs.Messages.{message_in}
-use Rattle.rex_node.specs.Calls.{armed_with}
-use Rattle.rex_node.specs.Going.{Appends, Fell, IsStuck, RunsOn, Tells, TellsBase, so_far}
-use Rattle.rex_log.specs.Log.{log_of, standing_in}
-use Rattle.rex_node.specs.Parts.{NodeValue, IsUp, IsResting, here_of, leaving, role_of, IsDown}
+use Rattle.rex_cluster.specs.Calls.{on_ask}
 use Rattle.rex_node.proofs.Appended.{instance_fits, logged_of, logged_known, IsLogged}
 use Rattle.rex_node.proofs.Bases.{tells_base}
 use Rattle.rex_node.proofs.Following.{EndsWell, ends_same, far}

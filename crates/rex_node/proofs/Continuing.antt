@@ -1,16 +1,6 @@
 -- A call whose first parts are done goes on to its last one.
-use Rattle.std.proofs.Common.{◌≡◌, ℕ, List, Result, Ok, Err, subst}
-use Rattle.std.specs.Prelude.{IfOk}
-use Rattle.rex_syntax.specs.declared.service.Declarations.{Declarations}
-use Rattle.rex_traits.specs.Chains.{Answer}
-use Rattle.rex_cluster.specs.Lanes.{CallHere}
-use Rattle.rex_node.specs.declared.going.Going.{Going}
-use Rattle.rex_node.specs.declared.going.Going.TheVariants.{On, Down}
-use Rattle.rex_node.specs.declared.step.Draft.{Draft}
-use Rattle.rex_node.specs.Going.{Ends, Fell, Leads, so_far}
-use Rattle.rex_node.specs.Parts.{NodeValue}
+use Rattle.rex_node.proofs.Common.{◌≡◌, ℕ, List, Result, Ok, Err, subst, IfOk, Declarations, Answer, CallHere, Going, On, Down, Draft, Ends, Fell, Leads, so_far, NodeValue, Value}
 use Rattle.rex_node.proofs.GoingLemmas.{leads_then, leads_fell}
-use Rattle.rex_cluster.specs.Values.{Value}
 
 module _ {K : Type 0} (records : K → List (List ℕ)) (gives : K → List ℕ → Answer → K → Type 0) (faults : K → ℕ) (service : Declarations) (past : List Value) (whole rest : CallHere → CallHere) (x z w : NodeValue K) (before mid after : Draft) where
   -- the whole ends where the rest does

@@ -1,48 +1,21 @@
 -- A node counts promises as the model's does.
-use Rattle.std.proofs.Common.{◌≡◌, ℕ, ◌+◌, ◌*◌, ◌<◌, ◌≤◌, Bool, true, false, cond, ◌||◌, not, ◌⊎◌, inl, inr, List, [], ◌∷◌, ◌++◌, length, Option, Some, None, refl, sym, ap, subst, ◌∙◌, arith, length-append}
-use Rattle.std.specs.Prelude.{◌==◌, map, is_some, option_map, IfSome}
-use Rattle.std.specs.List.{All}
-use Rattle.std.proofs.lemmas.Bool.{false≢true}
+use Rattle.rex_node.proofs.Common.{◌≡◌, ℕ, ◌+◌, ◌*◌, ◌<◌, ◌≤◌, Bool, true, false, cond, ◌||◌, not, ◌⊎◌, inl, inr, List, [], ◌∷◌, ◌++◌, length, Option, Some, None, refl, sym, ap, subst, ◌∙◌, arith, length-append, ◌==◌, map, is_some, option_map, IfSome, All, false≢true, length-map, map-append, All-append, All-head, All-tail, All-weaker, Kept, IsValue, AcceptorValue, IsOneOf, AreCounted, is_counted, ProposerValue, is_candidate, voted, Vote, Why, counted_push, Declarations, StateValue, Effect, Answer, Proposal, is_in, is_majority, Failure, Lead, Service, Leading, LeadFits, RoleFits, enough, heard, led, on_own_promise, on_promise, say, settle, Value, service_of, CallHere, Going, Draft, message_in, armed_with, reports_of, told_of, BreaksOff, Ends, IsStuck, Leads, RunsOn, above, so_far, IsFree, proposal_in, NodeValue, ActingValue, HasGoneOn, HasOpen, IsActing, IsKept, IsResting, IsProposer, IsUp, Proposes, RunsShort, Stands, here_of, lead_of, open_of, role_of}
 use Rattle.std.proofs.lemmas.Cmp.{nat_eq_equiv}
-use Rattle.std.proofs.lemmas.List.{length-map, map-append}
-use Rattle.std.proofs.lemmas.List.Elements.{All-append, All-head, All-tail, All-weaker}
-use Rattle.rex_ballot.specs.declared.proposal.Proposal.{Proposal as Kept}
-use Rattle.rex_ballot.specs.Proposals.{IsProposal, IsValue}
-use Rattle.rex_paxos.specs.Acceptor.{AcceptorValue}
+use Rattle.rex_ballot.specs.Proposals.{IsProposal}
 use Rattle.rex_paxos.specs.Counting as counts
-use Rattle.rex_paxos.specs.Counting.{IsOneOf, AreCounted, is_counted, vote_of}
-use Rattle.rex_paxos.specs.Proposer.{ProposerValue, is_candidate, promise_counted, promise_refusal, voted, with_promise, without_last}
+use Rattle.rex_paxos.specs.Counting.{vote_of}
+use Rattle.rex_paxos.specs.Proposer.{promise_counted, promise_refusal, with_promise, without_last}
 use Rattle.rex_paxos.specs.declared.answers.Count.TheVariants as count
-use Rattle.rex_paxos.specs.declared.answers.Vote.{Vote}
 use Rattle.rex_paxos.specs.declared.answers.Vote.TheVariants.{Ignored, NotYet, Quorum}
-use Rattle.rex_paxos.specs.declared.answers.Why.{Why}
 use Rattle.rex_paxos.specs.declared.answers.Why.TheVariants.{Ballot, Late, Again}
-use Rattle.rex_paxos.proofs.Counted.{counted_push, new_promise}
+use Rattle.rex_paxos.proofs.Counted.{new_promise}
 use Rattle.rex_paxos.proofs.Taken.{taken_back}
-use Rattle.rex_syntax.specs.declared.service.Declarations.{Declarations}
-use Rattle.rex_state.specs.Value.{StateValue}
-use Rattle.rex_report.specs.declared.effect.Effect.{Effect}
 use Rattle.rex_report.specs.declared.effect.Effect.TheVariants as effect
-use Rattle.rex_traits.specs.Chains.{Answer}
-use Rattle.rex_cluster.specs.Records.{Proposal}
-use Rattle.rex_cluster.specs.Quorum.{is_in, is_majority}
-use Rattle.rex_cluster.specs.Node.{Failure, Lead, Service}
-use Rattle.rex_cluster.specs.Node.Role.{Leads as Leading}
 use Rattle.rex_cluster.specs.Invariant.{IsIn}
-use Rattle.rex_cluster.specs.Ranges.{LeadFits, ProposalFits, RoleFits}
-use Rattle.rex_cluster.specs.Calls.{enough, hear, heard, led, on_own_promise, on_promise, say, settle}
-use Rattle.rex_cluster.specs.Values.{Value, service_of}
-use Rattle.rex_cluster.specs.Lanes.{CallHere}
+use Rattle.rex_cluster.specs.Ranges.{ProposalFits}
+use Rattle.rex_cluster.specs.Calls.{hear}
 use Rattle.rex_cluster.proofs.Lists.{in_cases}
-use Rattle.rex_node.specs.declared.going.Going.{Going}
-use Rattle.rex_node.specs.declared.step.Draft.{Draft}
-use Rattle.rex_log.specs.Messages.{message_in}
-use Rattle.rex_node.specs.Calls.{armed_with}
-use Rattle.rex_node.specs.Electing.{counting, reports_of, told_of, uncounting, vote_on}
-use Rattle.rex_node.specs.Going.{BreaksOff, Ends, IsStuck, Leads, RunsOn, above, so_far}
-use Rattle.rex_node.specs.Leading.{IsFree}
-use Rattle.rex_log.specs.Log.{proposal_in}
-use Rattle.rex_node.specs.Parts.{NodeValue, ActingValue, HasGoneOn, HasOpen, IsActing, IsKept, IsResting, IsProposer, IsUp, Proposes, RunsShort, Stands, here_of, lead_of, open_of, role_of}
+use Rattle.rex_node.specs.Electing.{counting, uncounting, vote_on}
 use Rattle.rex_node.proofs.Appended.{Beside, ballot_fits, beside_of, instance_fits, logged_of, up_of}
 use Rattle.rex_node.proofs.Bridges.{in_counted, majority_is}
 use Rattle.rex_node.proofs.Candidates.{above_most}

@@ -1,23 +1,8 @@
 -- Known values that spell deltas, and a last state that is spelled: then nothing that records hold is bad.
-use Rattle.std.proofs.Common.{◌≡◌, ◌+◌, ◌<◌, ℕ, suc, Bool, true, false, List, [], ◌∷◌, ◌++◌, length, take, get_or, Result, Ok, Err, Option, Some, None, refl, sym, ap, subst, ◌∙◌}
-use Rattle.std.specs.Prelude.{if◌then◌else◌, fold, is_some, nat_lt, IsOk}
-use Rattle.std.specs.List.{All, list_all, filter_map, cons_option}
-use Rattle.std.proofs.lemmas.Bool.{and_parts}
-use Rattle.std.proofs.lemmas.List.Folds.{list_all-append}
-use Rattle.rex_cluster.specs.Values.{is_piece, spells, values_fit}
-use Rattle.std.proofs.lemmas.List.Elements.{All-append, All-nil, All-cons, All-head, All-tail}
-use Rattle.std.proofs.lemmas.List.{take_more}
-use Rattle.rex_syntax.specs.declared.service.Declarations.{Declarations}
-use Rattle.rex_event.specs.declared.delta.Delta.{Delta}
-use Rattle.rex_delta.specs.Reading.{delta_in}
-use Rattle.rex_snapshot.specs.Reading.{state_in}
-use Rattle.rex_transfer.specs.Window.{SpellsDelta}
+use Rattle.rex_node.proofs.Common.{◌≡◌, ◌+◌, ◌<◌, ℕ, suc, Bool, true, false, List, [], ◌∷◌, ◌++◌, length, take, get_or, Result, Ok, Err, Option, Some, None, refl, sym, ap, subst, ◌∙◌, if◌then◌else◌, fold, is_some, nat_lt, IsOk, All, list_all, filter_map, cons_option, and_parts, list_all-append, is_piece, spells, values_fit, All-append, All-nil, All-cons, All-head, All-tail, take_more, Declarations, Delta, delta_in, state_in, SpellsDelta, Dropped, Transferred, Recovered, Saved, checkpoint_in, recovered, snapshot_of, Place, IsFound, bad_at, bad_in, first_bad, has_state, place_or, state_at}
 use Rattle.rex_durable.specs.declared.records.Rec.{Rec}
-use Rattle.rex_durable.specs.declared.records.Rec.TheVariants.{Promised, Accepted, Known, Checkpoint, Dropped, Transferred}
-use Rattle.rex_durable.specs.declared.recovery.Recovered.{Recovered}
-use Rattle.rex_durable.specs.Recovery.{Saved, checkpoint_in, known, known_above, offset, recovered, snapshot_of}
-use Rattle.rex_node.specs.declared.contents.Place.{Place}
-use Rattle.rex_node.specs.Restarting.{IsFound, bad_at, bad_in, first_bad, has_state, place_or, state_at}
+use Rattle.rex_durable.specs.declared.records.Rec.TheVariants.{Promised, Accepted, Known, Checkpoint}
+use Rattle.rex_durable.specs.Recovery.{known, known_above, offset}
 
 -- ---- one value
 

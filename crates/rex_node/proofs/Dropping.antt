@@ -1,38 +1,12 @@
 -- A node that forgets the values up to its base does as the model's.
-use Rattle.std.proofs.Common.{◌≡◌, ℕ, suc, ◌-◌, ◌<◌, ◌≤◌, Bool, true, false, cond, eqb, leb, ltb, List, [], ◌∷◌, ◌++◌, length, take, drop, Option, Some, None, refl, sym, ap, subst, ◌∙◌, arith, length-append}
-use Rattle.std.specs.Prelude.{map, option_map, if◌then◌else◌}
-use Rattle.std.proofs.lemmas.Bool.{eqb-true, leb-true, leb-false, lt-ltb, ne_eqb}
-use Rattle.std.proofs.lemmas.List.{take-append-drop, take-append-le}
-use Rattle.std.proofs.lemmas.List.Elements.{All-filter}
-use Rattle.rex_ballot.specs.declared.proposal.Proposal.{Proposal as Kept}
-use Rattle.rex_ballot.specs.Proposals.{IsValue, above, proposal_for}
+use Rattle.rex_node.proofs.Common.{◌≡◌, ℕ, suc, ◌-◌, ◌<◌, ◌≤◌, Bool, true, false, cond, eqb, leb, ltb, List, [], ◌∷◌, ◌++◌, length, take, drop, Option, Some, None, refl, sym, ap, subst, ◌∙◌, arith, length-append, map, option_map, if◌then◌else◌, eqb-true, leb-true, leb-false, lt-ltb, ne_eqb, take-append-le, All-filter, Kept, IsValue, proposal_for, AcceptorValue, forgetting, ProposerValue, Declarations, StateValue, HasSpelling, IsDue, record_bytes, Answer, Rec, Proposal, base, from_on, known, offset, Failure, RoleFits, append, drop_known, say, Begins, Value, CallHere, log_of, proposal_in, standing_in, message_in, above_from, first_take, Draft, On, Down, armed_with, Appends, Fell, IsStuck, so_far, ActingValue, ActsFor, HasOpen, IsActing, IsProposer, IsResting, IsUp, NodeValue, count_of, here_of, knows, lead_of, open_of, role_of, whole, IsDown}
+use Rattle.std.proofs.lemmas.List.{take-append-drop}
+use Rattle.rex_ballot.specs.Proposals.{above}
 use Rattle.rex_ballot.proofs.Lists.{find_kept}
-use Rattle.rex_paxos.specs.Acceptor.{AcceptorValue, forgetting}
-use Rattle.rex_paxos.specs.Proposer.{ProposerValue}
-use Rattle.rex_syntax.specs.declared.service.Declarations.{Declarations}
-use Rattle.rex_state.specs.Value.{StateValue}
 use Rattle.rex_durable.specs.declared.records.Rec.TheVariants as kept
-use Rattle.rex_durable.specs.Spelling.{HasSpelling, IsDue, record_bytes}
 use Rattle.rex_report.specs.declared.effect.Effect.TheVariants as effect
-use Rattle.rex_traits.specs.Chains.{Answer}
-use Rattle.rex_cluster.specs.Records.{Rec, Proposal, base, from_on, known, offset}
 use Rattle.rex_cluster.specs.Records.Rec.{Dropped}
-use Rattle.rex_cluster.specs.Node.{Failure}
 use Rattle.rex_cluster.specs.Node.Role.{Leads}
-use Rattle.rex_cluster.specs.Ranges.{RoleFits}
-use Rattle.rex_cluster.specs.Calls.{append, drop_known, say}
-use Rattle.rex_cluster.specs.Invariant.{Begins}
-use Rattle.rex_cluster.specs.Values.{Value}
-use Rattle.rex_cluster.specs.Lanes.{CallHere}
-use Rattle.rex_log.specs.Log.{log_of, proposal_in, standing_in}
-use Rattle.rex_log.specs.Messages.{message_in}
-use Rattle.rex_log.proofs.Accepting.{above_from}
-use Rattle.rex_log.proofs.Firsts.{first_take}
-use Rattle.rex_node.specs.declared.step.Draft.{Draft}
-use Rattle.rex_node.specs.declared.going.Going.TheVariants.{On, Down}
-use Rattle.rex_node.specs.Calls.{armed_with}
-use Rattle.rex_node.specs.Going.{Appends, Fell, IsStuck, so_far}
-use Rattle.rex_node.specs.Parts.{ActingValue, ActsFor, HasOpen, IsActing, IsProposer, IsResting, IsUp, NodeValue, count_of, here_of, knows, lead_of, open_of, role_of, whole, IsDown}
 use Rattle.rex_node.specs.Telling.{dropped}
 use Rattle.rex_node.proofs.Appended.{Beside, IsLogged, appended_log, beside_of, call_at, logged_of, up_of}
 use Rattle.rex_node.proofs.Following.{EndsWell, far}

@@ -1,20 +1,8 @@
 -- What a node can propose, and why it proposes nothing.
-use Rattle.std.proofs.Common.{◌≡◌, ℕ, ◌<◌, true, List, [], ◌∷◌, ◌++◌, length, Option, Some, None, Result, Ok, Err, refl, sym, ap, subst, ◌∙◌, arith}
-use Rattle.std.specs.Prelude.{IfSome}
-use Rattle.rex_syntax.specs.declared.service.Declarations.{Declarations}
-use Rattle.rex_event.specs.declared.event.Event.{Event}
-use Rattle.rex_event.specs.Cuts.{below}
-use Rattle.rex_cut.specs.Greatest.{greatest_cut}
-use Rattle.rex_state.specs.Counts.{counts_of}
-use Rattle.rex_cluster.specs.Records.{known}
-use Rattle.rex_cluster.specs.Values.{Value, trace_of, state_after}
-use Rattle.rex_cluster.specs.Lanes.{limits_between}
-use Rattle.rex_node.specs.declared.pieces.Piece.{Piece}
-use Rattle.rex_node.specs.declared.refusal.Refusal.{Refusal}
+use Rattle.rex_node.proofs.Common.{◌≡◌, ℕ, ◌<◌, true, List, [], ◌∷◌, ◌++◌, length, Option, Some, None, Result, Ok, Err, refl, sym, ap, subst, ◌∙◌, arith, IfSome, Declarations, Event, below, greatest_cut, counts_of, known, Value, trace_of, state_after, limits_between, Piece, Refusal, RefusesThen, counts_for, refusal_of_none, counts_in, ActingValue, NodeValue, Executes, IsResting, IsUp, here_of, work_of}
 use Rattle.rex_node.specs.declared.refusal.Refusal.TheVariants as why
-use Rattle.rex_node.specs.Calls.{CanBeCut, CutIsSpelled, RefusesThen, counts_for, refusal_of_none}
-use Rattle.rex_node.specs.Cutting.{CanMakePiece, MakesPiece, MakesPieceOf, counts_in}
-use Rattle.rex_node.specs.Parts.{ActingValue, NodeValue, Executes, IsResting, IsUp, here_of, work_of}
+use Rattle.rex_node.specs.Calls.{CanBeCut, CutIsSpelled}
+use Rattle.rex_node.specs.Cutting.{CanMakePiece, MakesPiece, MakesPieceOf}
 use Rattle.rex_node.proofs.Executing.{executes, live_state_is, start_is}
 
 none_where_some : (es : List Event) → 0 < length es → refusal_of_none es ≡ None

@@ -1,33 +1,11 @@
 -- How a call that came to its end answers, and what it leaves.
-use Rattle.std.proofs.Common.{◌≡◌, ℕ, ◌<◌, ◌≤◌, true, ◌⊎◌, inl, inr, List, [], ◌∷◌, ◌++◌, length, Result, Ok, Err, Option, Some, None, refl, sym, ap, subst, ◌∙◌, arith, length-append}
+use Rattle.rex_node.proofs.Common.{◌≡◌, ℕ, ◌<◌, ◌≤◌, true, ◌⊎◌, inl, inr, List, [], ◌∷◌, ◌++◌, length, Result, Ok, Err, Option, Some, None, refl, sym, ap, subst, ◌∙◌, arith, length-append, map, IfOk, OnErr, false≢true, same_Some, AllocError, most_nodes, Declarations, Effect, Answer, Failed, down_node, After, IsAmong, begin, Value, CallHere, Going, On, Down, Refusal, Draft, Step, message_in, log_of, HasDecoded, NodeValue, IsUp, IsResting, IsSame, Stands, StaysResting, fallen, here_of, whole, Does, EndsDown, StopsShort, armed_with, call_of, last_of, BreaksOff, Ends, Finishes, IsStuck, Leads, so_far}
 use Rattle.std.proofs.lemmas.List.{append_cancel_left}
-use Rattle.std.specs.Prelude.{map, IfOk, OnErr}
-use Rattle.std.proofs.lemmas.Bool.{false≢true}
-use Rattle.std.proofs.lemmas.Option.{same_Some}
-use Rattle.std.specs.declared.alloc.AllocError.{AllocError}
-use Rattle.rex_ballot.specs.Limits.{most_nodes}
 use Rattle.rex_msg.specs.declared.message.Message.{Message}
-use Rattle.rex_syntax.specs.declared.service.Declarations.{Declarations}
-use Rattle.rex_report.specs.declared.effect.Effect.{Effect}
 use Rattle.rex_report.specs.declared.effect.Effect.TheVariants as effect
-use Rattle.rex_traits.specs.Chains.{Answer, AppendsInTurn}
-use Rattle.rex_traits.specs.declared.keeper.KeepFault.TheVariants.{Failed}
-use Rattle.rex_cluster.specs.Node.{down_node}
-use Rattle.rex_cluster.specs.Node.Failure.{After}
-use Rattle.rex_cluster.specs.Releases.{IsAmong}
-use Rattle.rex_cluster.specs.Calls.{begin}
-use Rattle.rex_cluster.specs.Values.{Value}
-use Rattle.rex_cluster.specs.Lanes.{CallHere}
-use Rattle.rex_node.specs.declared.going.Going.{Going}
-use Rattle.rex_node.specs.declared.going.Going.TheVariants.{On, Down}
-use Rattle.rex_node.specs.declared.refusal.Refusal.{Refusal}
-use Rattle.rex_node.specs.declared.step.Draft.{Draft}
-use Rattle.rex_node.specs.declared.step.Step.{Step}
-use Rattle.rex_log.specs.Messages.{message_in}
-use Rattle.rex_log.specs.Log.{first as front_of, log_of}
-use Rattle.rex_node.specs.Parts.{HasDecoded, NodeValue, IsUp, IsResting, IsSame, Stands, StaysResting, fallen, here_of, whole}
-use Rattle.rex_node.specs.Calls.{Does, EndsDown, IsGivenUp, Leaves, Refuses, StopsShort, armed_with, call_of, last_of}
-use Rattle.rex_node.specs.Going.{BreaksOff, Ends, Finishes, IsStuck, Leads, so_far}
+use Rattle.rex_traits.specs.Chains.{AppendsInTurn}
+use Rattle.rex_log.specs.Log.{first as front_of}
+use Rattle.rex_node.specs.Calls.{IsGivenUp, Leaves, Refuses}
 use Rattle.rex_node.proofs.Appended.{IsLogged, call_at, Beside, logged_of, beside_of, up_of}
 use Rattle.rex_node.proofs.Grows.{later_none}
 use Rattle.rex_node.proofs.Quiet.{IsQuiet}

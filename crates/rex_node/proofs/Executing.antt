@@ -1,47 +1,21 @@
 -- What an active node executes is what the model computes from its records.
-use Rattle.std.proofs.Common.{◌≡◌, ℕ, Bool, true, false, cond, drop, refl, List, [], ◌∷◌, ◌++◌, length, Option, Some, None, ap, sym, subst, ◌∙◌}
-use Rattle.std.specs.Prelude.{ℤ, is_some}
-use Rattle.std.specs.List.{All}
-use Rattle.std.proofs.lemmas.List.Elements.{All-nil, All-tail, All-push}
-use Rattle.rand_pcg.specs.Lcg.{Lcg}
-use Rattle.rand_pcg.specs.Pcg.{pcg32}
-use Rattle.rex_syntax.specs.declared.request.Request.{Request}
-use Rattle.rex_syntax.specs.declared.service.Declarations.{Declarations}
-use Rattle.rex_syntax.specs.Service.{IsService}
-use Rattle.rex_event.specs.declared.event.Event.{Event}
-use Rattle.rex_state.specs.Start.{start_of}
-use Rattle.rex_state.specs.Machine.{entry_at}
-use Rattle.rex_state.proofs.Run.{run-then}
-use Rattle.rex_state.proofs.Sounds.{run_keeps}
-use Rattle.rex_record.specs.declared.turns.Turn.{Turn}
+use Rattle.rex_node.proofs.Common.{◌≡◌, ℕ, Bool, true, false, cond, drop, refl, List, [], ◌∷◌, ◌++◌, length, Option, Some, None, ap, sym, subst, ◌∙◌, ℤ, is_some, All, All-nil, All-tail, Lcg, pcg32, Request, Declarations, IsService, Event, start_of, entry_at, run-then, run_keeps, Turn, turn_of, queued_in, taken_turn, IsRecorder, CanBegin, AcceptorValue, ProposerValue, RequestFits, Proposal, known, Value, trace_of, state_after, RoleFits, begin, Refusal, LeadsTo, if_up, StaysResting, state_is, ActingValue, NodeValue, Executes, ActsFor, OpenIsCut, NumbersReplies, IsActing, HasStamps, IsUp, IsResting, HasGoneOn, here_of, open_of, role_of, work_of, given}
+use Rattle.std.proofs.lemmas.List.Elements.{All-push}
 use Rattle.rex_record.specs.declared.turns.Turn.TheVariants as turn
-use Rattle.rex_record.specs.Turn.{turn_of, does_draw, dice_after}
-use Rattle.rex_record.specs.Value.{queued_in, queue_after, is_begin, turned}
-use Rattle.rex_record.specs.Take.{taken_turn}
-use Rattle.rex_record.specs.Kept.{IsRecorder, CanBegin}
-use Rattle.rex_paxos.specs.Acceptor.{AcceptorValue}
-use Rattle.rex_paxos.specs.Proposer.{ProposerValue}
+use Rattle.rex_record.specs.Turn.{does_draw, dice_after}
+use Rattle.rex_record.specs.Value.{queue_after, is_begin, turned}
 use Rattle.rex_gate.specs.declared.answer.Answer.{Answer}
 use Rattle.rex_gate.specs.declared.answer.Answer.TheVariants.{Queued}
 use Rattle.rex_gate.specs.Answer.{answer_to}
 use Rattle.rex_gate.specs.Laws.{IsDue}
 use Rattle.rex_gate.proofs.Due.{queued_due}
-use Rattle.rex_schedule.specs.Fits.{RequestFits}
-use Rattle.rex_cluster.specs.Records.{Proposal, known}
-use Rattle.rex_cluster.specs.Values.{Value, trace_of, state_after}
-use Rattle.rex_cluster.specs.Ranges.{RoleFits}
-use Rattle.rex_cluster.specs.Calls.{begin}
 use Rattle.rex_cluster.specs.Lanes as lanes
 use Rattle.rex_cluster.specs.Takes as takes
 use Rattle.rex_cluster.specs.Lanes.{queue_with, submit_request, live_state, known_state}
-use Rattle.rex_node.specs.declared.refusal.Refusal.{Refusal}
-use Rattle.rex_node.specs.Calls.{LeadsTo, if_up, turn_at}
-use Rattle.rex_node.specs.Parts.{StaysResting}
-use Rattle.rex_cluster.proofs.Replies.{state_is}
+use Rattle.rex_node.specs.Calls.{turn_at}
 use Rattle.rex_cluster.proofs.Queues.{queued_positive, due_begins, queue_after_answer}
-use Rattle.rex_node.specs.Parts.{ActingValue, NodeValue, Executes, ActsFor, OpenIsCut, NumbersReplies, IsActing, HasStamps, IsUp, IsResting, HasGoneOn, here_of, open_of, role_of, work_of}
 use Rattle.rex_node.proofs.Proposed.{open_turned}
-use Rattle.rex_node.specs.Submitting.{answer_in, taken, given}
+use Rattle.rex_node.specs.Submitting.{answer_in, taken}
 
 module _ {service : Declarations} {values : List Value} {a : ActingValue} (h : Executes service values a) where
   pub start_is : state_after service (trace_of values) ≡ a.recorder.start

@@ -1,31 +1,7 @@
 -- What a node is that leaves its role, with a record more or none.
-use Rattle.std.proofs.Common.{◌≡◌, ℕ, suc, ◌<◌, ◌≤◌, true, List, [], ◌∷◌, ◌++◌, length, take, Option, Some, None, refl, sym, ap, subst, ◌∙◌, arith, le_trans}
-use Rattle.std.specs.Prelude.{map, is_some, option_map, if◌then◌else◌}
-use Rattle.std.proofs.lemmas.Bool.{lt-ltb, le-ltb, ne_eqb, false≢true}
-use Rattle.std.proofs.lemmas.Option.{same_Some}
-use Rattle.rex_paxos.specs.Acceptor.{AcceptorValue}
-use Rattle.rex_paxos.specs.Proposer.{ProposerValue}
-use Rattle.rex_syntax.specs.declared.service.Declarations.{Declarations}
-use Rattle.rex_state.specs.Value.{StateValue}
-use Rattle.rex_state.specs.Start.{start_of}
-use Rattle.rex_state.specs.Machine.{run}
-use Rattle.rex_report.specs.declared.effect.Effect.{Effect}
+use Rattle.rex_node.proofs.Common.{◌≡◌, ℕ, suc, ◌<◌, ◌≤◌, true, List, [], ◌∷◌, ◌++◌, length, take, Option, Some, None, refl, sym, ap, subst, ◌∙◌, arith, le_trans, map, is_some, option_map, if◌then◌else◌, lt-ltb, le-ltb, ne_eqb, false≢true, same_Some, AcceptorValue, ProposerValue, Declarations, StateValue, start_of, run, Effect, Answer, Rec, base, known, Known, Failure, Message, no_work, Follower, say, follow, followed, logged, work_left, replayed_left, with_role, append, on_chosen, on_nack, Value, trace_of, Here, CallHere, Draft, message_in, armed_with, Leads, Tells, so_far, log_of, NodeValue, IsUp, IsKept, IsResting, here_of, role_of, work_of, leaving}
 use Rattle.rex_report.specs.declared.effect.Effect.TheVariants as effect
 use Rattle.rex_report.specs.declared.effect.Effect.TheVariants.{IgnoredBallot, IgnoredInstance}
-use Rattle.rex_traits.specs.Chains.{Answer}
-use Rattle.rex_cluster.specs.Records.{Rec, base, known}
-use Rattle.rex_cluster.specs.Records.Rec.{Known}
-use Rattle.rex_cluster.specs.Node.{Failure, Message, no_work}
-use Rattle.rex_cluster.specs.Node.Role.{Follower}
-use Rattle.rex_cluster.specs.Calls.{say, follow, followed, logged, work_left, replayed_left, with_role, append, on_chosen, on_nack}
-use Rattle.rex_cluster.specs.Values.{Value, trace_of}
-use Rattle.rex_cluster.specs.Lanes.{Here, CallHere}
-use Rattle.rex_node.specs.declared.step.Draft.{Draft}
-use Rattle.rex_log.specs.Messages.{message_in}
-use Rattle.rex_node.specs.Calls.{armed_with}
-use Rattle.rex_node.specs.Going.{Leads, Tells, so_far}
-use Rattle.rex_log.specs.Log.{log_of}
-use Rattle.rex_node.specs.Parts.{NodeValue, IsUp, IsKept, IsResting, here_of, role_of, work_of, leaving}
 use Rattle.rex_node.proofs.Appended.{IsLogged, Beside, call_at, beside_of, up_of}
 use Rattle.rex_node.proofs.GoingLemmas.{leads_same}
 use Rattle.rex_node.proofs.Leaving.{role_active, no_work_left, replayed_from, replayed_to, state_left, leaves, node_left}

@@ -1,11 +1,6 @@
 -- The first values of those that run.
-use Rattle.std.proofs.Common.{◌≡◌, ℕ, true, List, ◌++◌, take, drop, Some, sym, ap, ◌∙◌, take-append-drop}
-use Rattle.rex_syntax.specs.declared.service.Declarations.{Declarations}
-use Rattle.rex_state.specs.Value.{StateValue}
-use Rattle.rex_state.specs.Start.{start_of}
-use Rattle.rex_state.specs.Machine.{run}
-use Rattle.rex_cluster.specs.Values.{Value, trace_of, values_fit}
-use Rattle.rex_cluster.proofs.Replies.{trace_both, fits_run, run_split}
+use Rattle.rex_node.proofs.Common.{◌≡◌, ℕ, true, List, ◌++◌, take, drop, Some, sym, ap, ◌∙◌, take-append-drop, Declarations, StateValue, start_of, run, Value, trace_of, values_fit, trace_both, fits_run}
+use Rattle.rex_cluster.proofs.Replies.{run_split}
 
 -- the first values run
 pub front_runs : (service : Declarations) (n : ℕ) (vs : List Value) → values_fit service vs ≡ true → (s : StateValue) × (run service (start_of service) (trace_of (take n vs)) ≡ Some s)

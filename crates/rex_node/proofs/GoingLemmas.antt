@@ -1,24 +1,8 @@
 -- How parts of a call follow one another.
-use Rattle.std.proofs.Common.{◌≡◌, ℕ, ◌+◌, ◌<◌, Bool, true, false, List, [], ◌∷◌, ◌++◌, length, Ok, Err, Option, Some, None, refl, sym, ap, subst, ◌∙◌, append_assoc, length-append, arith}
+use Rattle.rex_node.proofs.Common.{◌≡◌, ℕ, ◌+◌, ◌<◌, Bool, true, false, List, [], ◌∷◌, ◌++◌, length, Ok, Err, Option, Some, None, refl, sym, ap, subst, ◌∙◌, append_assoc, length-append, arith, if◌then◌else◌, list_all-append, Declarations, Answer, Failed, chained, StateValue, Rec, Failure, down_node, After, append, logged, Value, CallHere, armed_with, failed_records, AreStated, is_stated, one_later, later, Leads, Fell}
 use Rattle.std.proofs.lemmas.List.{append-nil}
-use Rattle.std.specs.Prelude.{if◌then◌else◌}
-use Rattle.std.proofs.lemmas.List.Folds.{list_all-append}
-use Rattle.rex_syntax.specs.declared.service.Declarations.{Declarations}
-use Rattle.rex_traits.specs.Chains.{Answer}
-use Rattle.rex_traits.specs.declared.keeper.KeepFault.TheVariants.{Failed}
-use Rattle.rex_traits.proofs.Chained.{chained}
-use Rattle.rex_state.specs.Value.{StateValue}
 use Rattle.rex_report.specs.declared.effect.Effect.TheVariants as effect
-use Rattle.rex_cluster.specs.Records.{Rec}
-use Rattle.rex_cluster.specs.Node.{Failure, down_node}
-use Rattle.rex_cluster.specs.Node.Failure.{After}
-use Rattle.rex_cluster.specs.Calls.{append, logged}
-use Rattle.rex_cluster.specs.Values.{Value}
-use Rattle.rex_cluster.specs.Lanes.{CallHere}
-use Rattle.rex_node.specs.Calls.{armed_with, failed_many}
-use Rattle.rex_node.specs.Parts.{failed_records}
-use Rattle.rex_node.specs.Stated.{AreStated, is_stated}
-use Rattle.rex_node.specs.Going.{one_later, later, Leads, Fell}
+use Rattle.rex_node.specs.Calls.{failed_many}
 
 -- a failure after these appends and then those
 later_both : (first second : List (List ℕ)) (f : Option Failure) → later (first ++ second) f ≡ later first (later second f)

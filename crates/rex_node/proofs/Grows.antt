@@ -1,24 +1,9 @@
 -- What a node knew before a call begins what it knows after it.
-use Rattle.std.proofs.Common.{◌≡◌, ℕ, zero, suc, Bool, true, false, cond, List, [], ◌∷◌, ◌++◌, Option, Some, None, refl, sym, ap, subst, ◌∙◌, append-nil, append_assoc}
-use Rattle.rex_report.specs.declared.effect.Effect.{Effect}
-use Rattle.rex_syntax.specs.declared.service.Declarations.{Declarations}
-use Rattle.rex_syntax.specs.Service.{IsService}
-use Rattle.rex_syntax.specs.Check.{IsChecked}
-use Rattle.rex_traits.specs.Chains.{Answer}
-use Rattle.rex_cluster.specs.Records.{Rec, Proposal, known}
-use Rattle.rex_cluster.specs.Records.Rec.{Promised, Accepted, Known, Checkpoint, Dropped, Transferred}
-use Rattle.rex_cluster.specs.Node.{Service, Lead, Role, Failure}
-use Rattle.rex_cluster.specs.Node.Failure.{After}
-use Rattle.rex_cluster.specs.Node.Role.{Follower, Leads}
-use Rattle.rex_cluster.specs.Invariant.{Begins}
-use Rattle.rex_cluster.specs.Values.{Value, values_fit}
-use Rattle.rex_cluster.specs.Lanes.{CallHere}
-use Rattle.rex_cluster.specs.Calls.{Call, append, logged, propose, decide, choose, lead, turn, settle}
+use Rattle.rex_node.proofs.Common.{◌≡◌, ℕ, zero, suc, Bool, true, false, cond, List, [], ◌∷◌, ◌++◌, Option, Some, None, refl, sym, ap, subst, ◌∙◌, append-nil, append_assoc, Effect, Declarations, IsService, IsChecked, Answer, Rec, Proposal, known, Promised, Accepted, Known, Checkpoint, Service, Lead, Role, Failure, After, Follower, Begins, Value, values_fit, CallHere, Call, append, logged, propose, decide, choose, lead, turn, settle, Draft, NodeValue, LeadsOn, RunsOn, later, one_later, so_far}
+use Rattle.rex_cluster.specs.Records.Rec.{Dropped, Transferred}
+use Rattle.rex_cluster.specs.Node.Role.{Leads}
 use Rattle.rex_cluster.proofs.Grow.{begins_trans, begins_same}
 use Rattle.rex_cluster.proofs.Acting.{fits_front}
-use Rattle.rex_node.specs.declared.step.Draft.{Draft}
-use Rattle.rex_node.specs.Parts.{NodeValue}
-use Rattle.rex_node.specs.Going.{Leads as LeadsOn, RunsOn, later, one_later, so_far}
 
 module _ {V S : Type 0} where
   -- what a call's node knows begins what another one's does

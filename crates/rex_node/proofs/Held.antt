@@ -1,24 +1,14 @@
 -- What the records of a keeper hold.
-use Rattle.std.proofs.Common.{◌≡◌, ℕ, suc, ◌+◌, ◌-◌, ◌^◌, ◌<◌, Bool, true, false, List, [], ◌∷◌, ◌++◌, length, take, drop, drop-cons, take-append-drop, get_or, Result, Ok, Err, Option, Some, None, ◌⊎◌, inl, inr, refl, sym, ap, subst, ◌∙◌, arith}
-use Rattle.std.specs.Prelude.{fold, not, nat_lt, IsOk, slice_index_or, ◌||◌, if◌then◌else◌}
+use Rattle.rex_node.proofs.Common.{◌≡◌, ℕ, suc, ◌+◌, ◌-◌, ◌^◌, ◌<◌, Bool, true, false, List, [], ◌∷◌, ◌++◌, length, take, drop, take-append-drop, get_or, Result, Ok, Err, Option, Some, None, ◌⊎◌, inl, inr, refl, sym, ap, subst, ◌∙◌, arith, fold, nat_lt, IsOk, slice_index_or, if◌then◌else◌, length-map, take_more, fold_push, Declarations, delta_in, state_in, Dropped, Transferred, HasSpelling, record_bytes, Spell, Recovered, Saved, checkpoint_in, snapshot_of, StateValue, filter_map, same_Some, Place, IsFound, IsSaved, bad_at, bad_in, ends_old, first_bad, has_state, old_in, place_or, state_at}
+use Rattle.std.proofs.Common.{drop-cons}
+use Rattle.std.specs.Prelude.{not, ◌||◌}
 use Rattle.std.proofs.Math.Seq.{drop-length}
-use Rattle.std.proofs.lemmas.List.{get_or-map, length-map, take_more}
-use Rattle.std.proofs.lemmas.List.Sums.{fold_push}
+use Rattle.std.proofs.lemmas.List.{get_or-map}
 use Rattle.std.proofs.lemmas.Nat.{from_be_bytes-to_be_bytes_4}
-use Rattle.rex_syntax.specs.declared.service.Declarations.{Declarations}
-use Rattle.rex_delta.specs.Reading.{delta_in}
-use Rattle.rex_snapshot.specs.Reading.{state_in}
 use Rattle.rex_durable.specs.declared.records.Rec.{Rec}
-use Rattle.rex_durable.specs.declared.records.Rec.TheVariants.{Promised, Accepted, Known, Checkpoint, Dropped, Transferred}
-use Rattle.rex_durable.specs.Spelling.{HasSpelling, record_bytes}
-use Rattle.rex_durable.specs.Kept.{Spell}
-use Rattle.rex_durable.specs.declared.recovery.Recovered.{Recovered}
-use Rattle.rex_durable.specs.Recovery.{Saved, checkpoint, checkpoint_in, offset, snapshot_of}
-use Rattle.rex_state.specs.Value.{StateValue}
-use Rattle.std.specs.List.{filter_map}
-use Rattle.std.proofs.lemmas.Option.{same_Some}
-use Rattle.rex_node.specs.declared.contents.Place.{Place}
-use Rattle.rex_node.specs.Restarting.{IsFound, IsRead, IsSaved, bad_at, bad_behind, bad_in, ends_old, first_bad, has_state, is_held, is_state, old_behind, old_in, place_or, state_at}
+use Rattle.rex_durable.specs.declared.records.Rec.TheVariants.{Promised, Accepted, Known, Checkpoint}
+use Rattle.rex_durable.specs.Recovery.{checkpoint, offset}
+use Rattle.rex_node.specs.Restarting.{IsRead, bad_behind, is_held, is_state, old_behind}
 use Rattle.rex_node.specs.Stated.{is_state_kind}
 
 -- ---- one record

@@ -1,16 +1,9 @@
 -- Proposals by instance are in the model what they are at an acceptor.
-use Rattle.std.proofs.Common.{◌≡◌, ℕ, ◌+◌, ◌<◌, ◌≤◌, Bool, true, false, cond, ◌||◌, eqb, ltb, leb, List, [], ◌∷◌, ◌++◌, Some, refl, sym, ap, ◌∙◌, arith, eqb-true, ltb-true, ltb-false}
-use Rattle.std.specs.Prelude.{map}
-use Rattle.std.proofs.lemmas.Bool.{eqb-false, le-leb, leb-false, lt-ltb, ne_eqb}
-use Rattle.rex_ballot.specs.declared.proposal.Proposal.{Proposal as Kept}
-use Rattle.rex_ballot.specs.Proposals.{AreRising, below, above, from_instance, proposal_for, with_proposal}
+use Rattle.rex_node.proofs.Common.{◌≡◌, ℕ, ◌+◌, ◌<◌, ◌≤◌, Bool, true, false, cond, ◌||◌, eqb, ltb, leb, List, [], ◌∷◌, ◌++◌, Some, refl, sym, ap, ◌∙◌, arith, ltb-true, map, eqb-false, le-leb, leb-false, lt-ltb, ne_eqb, Kept, from_instance, proposal_for, is_of_ballot, Proposal, placed, from_on, has_last, Value, proposal_in}
+use Rattle.std.proofs.Common.{eqb-true, ltb-false}
+use Rattle.rex_ballot.specs.Proposals.{AreRising, below, above, with_proposal}
 use Rattle.rex_ballot.proofs.Lists.{rising_less, below_none}
-use Rattle.rex_paxos.specs.Acceptor.{is_of_ballot}
-use Rattle.rex_cluster.specs.Records.{Proposal, placed, from_on}
 use Rattle.rex_cluster.specs.Ranges as ranges
-use Rattle.rex_cluster.specs.Calls.{has_last}
-use Rattle.rex_cluster.specs.Values.{Value}
-use Rattle.rex_log.specs.Log.{proposal_in}
 
 -- instances that rise in the model rise at an acceptor
 pub rising_kept : (least : ℕ) (ps : List Kept) → ranges.AreRising least (map proposal_in ps) → AreRising (least + 1) ps

@@ -1,55 +1,16 @@
 -- A majority accepted the value of the next instance: the node knows it.
-use Rattle.std.proofs.Common.{◌≡◌, ℕ, suc, ◌+◌, ◌<◌, ◌≤◌, Bool, true, not, List, [], ◌∷◌, ◌++◌, length, take, Option, Some, None, inr, filter, refl, sym, ap, subst, ◌∙◌, arith}
-use Rattle.std.specs.Prelude.{map, is_some, option_map, IfSome, IsSome, unwrap_or}
-use Rattle.std.proofs.lemmas.Bool.{false≢true}
-use Rattle.std.proofs.lemmas.List.{take-append-le}
+use Rattle.rex_node.proofs.Common.{◌≡◌, ℕ, suc, ◌+◌, ◌<◌, ◌≤◌, Bool, true, not, List, [], ◌∷◌, ◌++◌, length, take, Option, Some, None, inr, refl, sym, ap, subst, ◌∙◌, arith, map, is_some, option_map, IfSome, IsSome, unwrap_or, false≢true, take-append-le, most_nodes, IsValue, AcceptorValue, ProposerValue, closed, counted_none, Declarations, IsService, Event, is_below, below, beyond, StateValue, noting, start_of, run, GoesFirst, run-then, run_keeps, cuts_go_first, IsRecorder, Answer, KeptRec, HasSpelling, record_bytes, Rec, Proposal, known, Known, Failure, Lead, Work, Chose, LeadFits, RoleFits, decide, learned, leading, logged, others, released, send, Value, events_of, release_effect, service_of, trace_of, values_fit, CallHere, trace_push, length_push, Going, On, Down, Draft, content_in, message_in, log_of, NodeValue, ActingValue, Executes, HasStamps, IsActing, IsProposer, NumbersReplies, Proposes, IsCutAt, IsUp, IsKept, Keeps, Falls, ahead_of, here_of, lead_of, role_of, work_of, HasDecoded, HasReached, armed_with, Appends, BreaksOff, Comes, LosesFirst, so_far, IsOwnCut, Learns, LearnsShort, knowing, replayed_to, settling}
+use Rattle.std.proofs.Common.{filter}
 use Rattle.std.proofs.lemmas.List.Sums.{length-filter, count_by-le-length}
-use Rattle.rex_ballot.specs.Limits.{most_nodes}
 use Rattle.rex_ballot.specs.Ballot as ballots
-use Rattle.rex_ballot.specs.Proposals.{IsValue}
-use Rattle.rex_paxos.specs.Acceptor.{AcceptorValue}
-use Rattle.rex_paxos.specs.Proposer.{ProposerValue, closed}
-use Rattle.rex_paxos.proofs.Counted.{counted_none}
-use Rattle.rex_syntax.specs.declared.service.Declarations.{Declarations}
-use Rattle.rex_syntax.specs.Service.{IsService}
-use Rattle.rex_event.specs.declared.event.Event.{Event}
-use Rattle.rex_event.specs.Cuts.{is_below, below, beyond}
-use Rattle.rex_state.specs.Value.{StateValue}
-use Rattle.rex_gate.specs.Noted.{noted, noting}
+use Rattle.rex_gate.specs.Noted.{noted}
 use Rattle.rex_gate.proofs.Traced.{run_noted}
-use Rattle.rex_state.specs.Start.{start_of}
-use Rattle.rex_state.specs.Machine.{run}
-use Rattle.rex_state.specs.Commute.{GoesFirst}
-use Rattle.rex_state.proofs.Run.{run-then}
-use Rattle.rex_state.proofs.Sounds.{run_keeps}
-use Rattle.rex_state.proofs.Cuts.{cuts_go_first}
 use Rattle.rex_record.specs.Value.{releases, state_at}
-use Rattle.rex_record.specs.Kept.{IsRecorder}
-use Rattle.rex_traits.specs.Chains.{Answer}
-use Rattle.rex_durable.specs.declared.records.Rec.{Rec as KeptRec}
 use Rattle.rex_durable.specs.declared.records.Rec.TheVariants as kept
-use Rattle.rex_durable.specs.Spelling.{HasSpelling, record_bytes}
 use Rattle.rex_report.specs.declared.effect.Effect.TheVariants as effect
 use Rattle.rex_msg.specs.declared.message.Content.TheVariants as sent
-use Rattle.rex_cluster.specs.Records.{Rec, Proposal, known}
-use Rattle.rex_cluster.specs.Records.Rec.{Known}
-use Rattle.rex_cluster.specs.Node.{Failure, Lead, Work}
-use Rattle.rex_cluster.specs.Node.Content.{Chosen as Chose}
-use Rattle.rex_cluster.specs.Ranges.{LeadFits, RoleFits}
-use Rattle.rex_cluster.specs.Calls.{decide, learned, leading, logged, others, released, replayed_known, send, work_known}
-use Rattle.rex_cluster.specs.Values.{Value, events_of, release_effect, service_of, trace_of, values_fit}
-use Rattle.rex_cluster.specs.Lanes.{CallHere}
-use Rattle.rex_cluster.proofs.Replies.{trace_push}
-use Rattle.rex_cluster.proofs.Lists.{length_push}
-use Rattle.rex_node.specs.declared.going.Going.{Going}
-use Rattle.rex_node.specs.declared.going.Going.TheVariants.{On, Down}
-use Rattle.rex_node.specs.declared.step.Draft.{Draft}
-use Rattle.rex_log.specs.Messages.{content_in, message_in}
-use Rattle.rex_log.specs.Log.{log_of}
-use Rattle.rex_node.specs.Parts.{NodeValue, ActingValue, Executes, HasStamps, IsActing, IsProposer, NumbersReplies, Proposes, IsCutAt, IsUp, IsKept, Keeps, Falls, ahead_of, here_of, lead_of, role_of, work_of, HasDecoded, HasReached}
-use Rattle.rex_node.specs.Calls.{armed_with}
-use Rattle.rex_node.specs.Going.{Appends, BreaksOff, Comes, LosesFirst, so_far}
-use Rattle.rex_node.specs.Leading.{CanSettle, IsOwnCut, Learns, LearnsShort, knowing, releases_in, replayed_to, settling}
+use Rattle.rex_cluster.specs.Calls.{replayed_known, work_known}
+use Rattle.rex_node.specs.Leading.{CanSettle, releases_in}
 use Rattle.rex_node.proofs.Appended.{instance_fits, logged_known, logged_of, beside_of, up_of, IsLogged, Beside}
 use Rattle.rex_node.proofs.Executing.{start_is}
 use Rattle.rex_node.proofs.GoingLemmas.{leads_same, leads_then}

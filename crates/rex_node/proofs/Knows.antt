@@ -1,16 +1,11 @@
 -- What a node knows of values that it holds, and of those before them.
-use Rattle.std.proofs.Common.{◌≡◌, ℕ, ◌+◌, ◌-◌, ◌<◌, ◌≤◌, List, [], ◌∷◌, length, get_or, drop, Some, refl, ap, ◌∙◌, arith, length-append}
+use Rattle.rex_node.proofs.Common.{◌≡◌, ℕ, ◌+◌, ◌-◌, ◌<◌, ◌≤◌, List, [], ◌∷◌, length, get_or, drop, Some, refl, ap, ◌∙◌, arith, length-append, slice_get, Value, first, first_length, Looks, NodeValue, count_of, knows}
 use Rattle.std.proofs.Math.Seq.{drop-append-add}
-use Rattle.std.specs.Prelude.{slice_get}
 use Rattle.std.proofs.lemmas.List.{get_or-append_right}
 use Rattle.std.proofs.lemmas.Option.{get_or_from_slice_get}
-use Rattle.rex_cluster.specs.Values.{Value}
-use Rattle.rex_log.specs.Log.{first}
-use Rattle.rex_log.proofs.Firsts.{first_length}
 use Rattle.rex_transfer.specs.declared.window.Look.{Look}
 use Rattle.rex_transfer.specs.declared.window.Look.TheVariants as look
-use Rattle.rex_transfer.specs.Window.{WindowValue, Looks, known_of}
-use Rattle.rex_node.specs.Parts.{NodeValue, count_of, knows}
+use Rattle.rex_transfer.specs.Window.{WindowValue, known_of}
 
 -- a node knows as many values as it counts
 pub many_known : {K : Type 0} (past : List Value) (x : NodeValue K) → length (knows past x) ≡ count_of x

@@ -1,20 +1,6 @@
 -- A node that leaves its role.
-use Rattle.std.proofs.Common.{◌≡◌, ℕ, ◌≤◌, List, Option, Some, None, refl, sym, ap, subst, ◌∙◌, arith}
-use Rattle.std.specs.Prelude.{take, is_some}
-use Rattle.std.proofs.lemmas.Bool.{false≢true}
-use Rattle.rex_syntax.specs.declared.service.Declarations.{Declarations}
-use Rattle.rex_state.specs.Value.{StateValue}
-use Rattle.rex_state.specs.Start.{start_of}
-use Rattle.rex_state.specs.Machine.{run}
-use Rattle.rex_paxos.specs.Acceptor.{AcceptorValue}
-use Rattle.rex_paxos.specs.Proposer.{ProposerValue}
-use Rattle.rex_cluster.specs.Records.{base}
-use Rattle.rex_cluster.specs.Node.{no_work, is_active}
-use Rattle.rex_cluster.specs.Node.Role.{Follower}
-use Rattle.rex_cluster.specs.Calls.{begin, work_left, replayed_left, with_role}
-use Rattle.rex_cluster.specs.Values.{Value, trace_of}
-use Rattle.rex_cluster.specs.Lanes.{Here}
-use Rattle.rex_node.specs.Parts.{ActingValue, NodeValue, IsActing, IsUp, IsResting, here_of, role_of, work_of, ahead_of, ahead_left, leaving}
+use Rattle.rex_node.proofs.Common.{◌≡◌, ℕ, ◌≤◌, List, Option, Some, None, refl, sym, ap, subst, ◌∙◌, arith, is_some, false≢true, Declarations, StateValue, start_of, run, AcceptorValue, ProposerValue, base, no_work, is_active, Follower, begin, work_left, replayed_left, with_role, Value, trace_of, Here, ActingValue, NodeValue, IsActing, IsUp, IsResting, here_of, role_of, work_of, ahead_of, ahead_left, leaving}
+use Rattle.std.specs.Prelude.{take}
 
 pub role_active : (service : Declarations) (values : List Value) (a : AcceptorValue) (o : Option ProposerValue) (w : Option ActingValue) → IsActing service values a o w → is_active (role_of a o (is_some w)) ≡ is_some w
 role_active service values a None None h = refl

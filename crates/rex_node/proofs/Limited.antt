@@ -1,7 +1,6 @@
 -- Limits, one lane after another.
-use Rattle.std.proofs.Common.{◌≡◌, ℕ, ◌+◌, ◌<◌, List, [], ◌∷◌, ◌++◌, length, get_or, take, min, refl, sym, ap, ◌∙◌, arith}
-use Rattle.std.proofs.lemmas.List.{take_more, length-take}
-use Rattle.rex_cluster.specs.Lanes.{limits_between}
+use Rattle.rex_node.proofs.Common.{◌≡◌, ℕ, ◌+◌, ◌<◌, List, [], ◌∷◌, ◌++◌, length, get_or, take, min, refl, sym, ap, ◌∙◌, arith, take_more, limits_between}
+use Rattle.std.proofs.lemmas.List.{length-take}
 
 -- limits of one more lane
 push : (a b c : List ℕ) (x y z : ℕ) → length a ≡ length c → length b ≡ length c → limits_between (a ++ x ∷ []) (b ++ y ∷ []) (c ++ z ∷ []) ≡ limits_between a b c ++ min (x + z) y ∷ []

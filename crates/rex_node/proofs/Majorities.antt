@@ -1,42 +1,12 @@
 -- A majority accepted the open proposal of a node that leads: it knows the value, and goes on.
-use Rattle.std.proofs.Common.{◌≡◌, ℕ, suc, ◌+◌, ◌-◌, ◌*◌, ◌^◌, ◌<◌, ◌≤◌, Bool, true, false, cond, not, ◌||◌, List, [], ◌∷◌, ◌++◌, length, inl, inr, Option, Some, None, refl, sym, ap, subst, ◌∙◌, arith}
-use Rattle.std.specs.Prelude.{map, is_some, option_map, IfSome, IsSome, IfOk, OnErr, Result, Ok, Err, if◌then◌else◌}
-use Rattle.std.proofs.lemmas.Bool.{false≢true}
-use Rattle.std.proofs.lemmas.Option.{same_Some}
-use Rattle.std.proofs.lemmas.List.{length-map}
-use Rattle.std.specs.declared.alloc.AllocError.{AllocError}
-use Rattle.rex_ballot.specs.Limits.{most_nodes}
-use Rattle.rex_ballot.specs.declared.proposal.Proposal.{Proposal as Kept}
+use Rattle.rex_node.proofs.Common.{◌≡◌, ℕ, suc, ◌+◌, ◌-◌, ◌*◌, ◌^◌, ◌<◌, ◌≤◌, Bool, true, false, cond, not, ◌||◌, List, [], ◌∷◌, ◌++◌, length, inl, inr, Option, Some, None, refl, sym, ap, subst, ◌∙◌, arith, map, is_some, option_map, IfSome, IsSome, IfOk, OnErr, if◌then◌else◌, false≢true, same_Some, length-map, AllocError, most_nodes, Kept, IsValue, proposal_for, ProposerValue, acceptance_refusal, acceptance_vote, closed, is_candidate, voted, Declarations, IsService, IsChecked, StateValue, Answer, known, Known, Lead, Service, Leading, Chose, IsNodeOf, is_majority, LeadFits, RoleFits, decide, enough, learned, led, logged, on_voted, others, send, settle, Value, service_of, values_fit, CallHere, Going, On, Down, Draft, acceptance_vote_on, reports_of, proposal_in, NodeValue, ActingValue, HasDecoded, HasGoneOn, IsActing, IsCutAt, IsKept, IsResting, IsProposer, IsSame, IsUp, OpenIsCut, Proposes, here_of, lead_of, open_of, role_of, IsDown, BreaksOff, Comes, Ends, IsStuck, Leads, LosesFirst, MayGoOn, RunsOn, above, so_far, IsFree, IsOwnCut, Learns, LearnsShort, knowing, replayed_to, settling}
+use Rattle.std.specs.Prelude.{Result, Ok, Err}
 use Rattle.rex_ballot.specs.Ballot as ballots
-use Rattle.rex_ballot.specs.Proposals.{IsValue, proposal_for}
 use Rattle.rex_paxos.specs.declared.answers.Vote.TheVariants as vote
 use Rattle.rex_paxos.specs.declared.answers.Count.TheVariants as count
 use Rattle.rex_paxos.specs.Counting as counting
-use Rattle.rex_paxos.specs.Proposer.{ProposerValue, acceptance_refusal, acceptance_vote, closed, is_candidate, voted}
-use Rattle.rex_syntax.specs.declared.service.Declarations.{Declarations}
-use Rattle.rex_syntax.specs.Service.{IsService}
-use Rattle.rex_syntax.specs.Check.{IsChecked}
-use Rattle.rex_state.specs.Value.{StateValue}
-use Rattle.rex_traits.specs.Chains.{Answer}
-use Rattle.rex_cluster.specs.Records.{known}
-use Rattle.rex_cluster.specs.Records.Rec.{Known}
-use Rattle.rex_cluster.specs.Node.{Lead, Service}
-use Rattle.rex_cluster.specs.Node.Role.{Leads as Leading}
-use Rattle.rex_cluster.specs.Node.Content.{Chosen as Chose}
-use Rattle.rex_cluster.specs.Quorum.{IsNode as IsNodeOf, is_majority}
 use Rattle.rex_cluster.specs.Ranges as ranges
-use Rattle.rex_cluster.specs.Ranges.{LeadFits, RoleFits}
-use Rattle.rex_cluster.specs.Calls.{decide, enough, lead as lead_on, learned, led, logged, on_voted, others, send, settle}
-use Rattle.rex_cluster.specs.Values.{Value, service_of, values_fit}
-use Rattle.rex_cluster.specs.Lanes.{CallHere}
-use Rattle.rex_node.specs.declared.going.Going.{Going}
-use Rattle.rex_node.specs.declared.going.Going.TheVariants.{On, Down}
-use Rattle.rex_node.specs.declared.step.Draft.{Draft}
-use Rattle.rex_node.specs.Electing.{acceptance_vote_on, reports_of}
-use Rattle.rex_log.specs.Log.{proposal_in}
-use Rattle.rex_node.specs.Parts.{NodeValue, ActingValue, HasDecoded, HasGoneOn, IsActing, IsCutAt, IsKept, IsResting, IsProposer, IsSame, IsUp, OpenIsCut, Proposes, here_of, lead_of, open_of, role_of, IsDown}
-use Rattle.rex_node.specs.Going.{BreaksOff, Comes, Ends, IsStuck, Leads, LosesFirst, MayGoOn, RunsOn, above, so_far}
-use Rattle.rex_node.specs.Leading.{IsFree, IsOwnCut, Learns, LearnsShort, knowing, replayed_to, settling}
+use Rattle.rex_cluster.specs.Calls.{lead as lead_on}
 use Rattle.rex_node.proofs.Adopting.{decide_led}
 use Rattle.rex_node.proofs.Appended.{beside_of, fits_instance}
 use Rattle.rex_node.proofs.Candidates.{above_most}

@@ -1,22 +1,10 @@
 -- The records that a migration leaves say the same of the node.
-use Rattle.std.proofs.Common.{◌≡◌, ℕ, Bool, true, false, List, [], ◌∷◌, ◌++◌, Some, None, refl, sym, ap, subst, ◌∙◌}
-use Rattle.rex_syntax.specs.declared.service.Declarations.{Declarations}
-use Rattle.rex_state.specs.Value.{StateValue}
-use Rattle.rex_syntax.specs.declared.version.Version.TheVariants.{Two}
-use Rattle.rex_durable.specs.declared.records.Rec.{Rec as KeptRec}
+use Rattle.rex_node.proofs.Common.{◌≡◌, ℕ, Bool, true, false, List, [], ◌∷◌, ◌++◌, Some, None, refl, sym, ap, subst, ◌∙◌, Declarations, StateValue, Two, KeptRec, Recovered, recovered, Spell, IsDue, record_bytes, counts_all, Value, Answer, refusal_of_migrate, IsCheckpoint, IsResting, NodeValue, failed_records, here_of, IsSaved}
 use Rattle.rex_durable.specs.declared.records.Rec.TheVariants as kept
-use Rattle.rex_durable.specs.declared.recovery.Recovered.{Recovered}
-use Rattle.rex_durable.specs.Recovery.{after, recovered}
-use Rattle.rex_durable.specs.Kept.{Spell}
-use Rattle.rex_durable.specs.Spelling.{Follows, IsDue, record_bytes}
-use Rattle.rex_durable.proofs.OneMore.{counts_all, one_more, spell_more}
-use Rattle.rex_cluster.specs.Values.{Value}
-use Rattle.rex_traits.specs.Chains.{Answer}
-use Rattle.rex_node.specs.Calls.{refusal_of_migrate}
-use Rattle.rex_node.specs.Checkpointing.{IsCheckpoint}
+use Rattle.rex_durable.specs.Recovery.{after}
+use Rattle.rex_durable.specs.Spelling.{Follows}
+use Rattle.rex_durable.proofs.OneMore.{one_more, spell_more}
 use Rattle.rex_node.specs.Migrating.{SaysTheSame, SpellsTheSame, StillSay}
-use Rattle.rex_node.specs.Parts.{IsResting, NodeValue, failed_records, here_of}
-use Rattle.rex_node.specs.Restarting.{IsSaved}
 use Rattle.rex_node.proofs.Recalling.{recovered_says, stands_behind}
 use Rattle.rex_node.proofs.SavedAgain.{base_there, is_due, spelling}
 

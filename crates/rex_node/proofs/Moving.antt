@@ -1,45 +1,12 @@
 -- A node takes over the state after so many values, of which it knows fewer.
-use Rattle.std.proofs.Common.{◌≡◌, ℕ, suc, ◌+◌, ◌<◌, ◌≤◌, Bool, true, false, cond, leb, List, [], ◌∷◌, ◌++◌, length, Ok, Option, Some, None, inl, inr, refl, sym, ap, subst, ◌∙◌, arith, le_refl}
-use Rattle.std.specs.Prelude.{map, is_ok, is_some, nat_lt, if◌then◌else◌}
-use Rattle.std.proofs.lemmas.Bool.{false≢true, leb-true, leb-false, le-leb, le-ltb, lt-ltb, lt-leb}
-use Rattle.std.proofs.lemmas.List.{append-nil, take_all}
-use Rattle.std.proofs.lemmas.List.Elements.{All-filter}
-use Rattle.rex_ballot.specs.Ballot.{IsInstance}
-use Rattle.rex_ballot.specs.declared.proposal.Proposal.{Proposal as Kept}
-use Rattle.rex_ballot.specs.Proposals.{IsValue, above}
-use Rattle.rex_paxos.specs.Acceptor.{AcceptorValue, forgetting}
-use Rattle.rex_paxos.specs.Proposer.{ProposerValue}
-use Rattle.rex_syntax.specs.declared.service.Declarations.{Declarations}
-use Rattle.rex_state.specs.Value.{StateValue}
-use Rattle.rex_state.specs.Start.{start_of}
-use Rattle.rex_state.specs.Machine.{run}
-use Rattle.rex_snapshot.specs.Reading.{state_in}
-use Rattle.rex_traits.specs.Chains.{Answer}
-use Rattle.rex_durable.specs.declared.records.Rec.{Rec as KeptRec}
+use Rattle.rex_node.proofs.Common.{◌≡◌, ℕ, suc, ◌+◌, ◌<◌, ◌≤◌, Bool, true, false, cond, leb, List, [], ◌∷◌, ◌++◌, length, Ok, Option, Some, None, inl, inr, refl, sym, ap, subst, ◌∙◌, arith, le_refl, map, is_ok, is_some, nat_lt, if◌then◌else◌, false≢true, leb-true, leb-false, le-leb, le-ltb, lt-ltb, lt-leb, take_all, All-filter, IsInstance, Kept, IsValue, AcceptorValue, forgetting, ProposerValue, Declarations, StateValue, start_of, run, state_in, Answer, KeptRec, HasSpelling, IsDue, record_bytes, Effect, Rec, Proposal, base, known, last_accepted, from_on, Failure, Message, Work, down_node, is_active, no_work, append, follow, followed, logged, on_snapshot, replayed_left, say, work_left, Value, service_of, trace_of, values_fit, CallHere, state_is, length_push, first, log_of, proposal_in, read_state, rec_of, standing_in, message_in, above_from, first_length, log_then, On, Down, Draft, is_stated, fallen_moved, NodeValue, IsResting, IsUp, ahead_left, failed_records, fallen, here_of, leaving, role_of, work_of, IsDown, armed_with, Appends, Fell, IsStuck, Leads, RunsOn, Tells, so_far}
+use Rattle.std.proofs.lemmas.List.{append-nil}
+use Rattle.rex_ballot.specs.Proposals.{above}
 use Rattle.rex_durable.specs.declared.records.Rec.TheVariants as kept
-use Rattle.rex_durable.specs.Spelling.{HasSpelling, IsDue, record_bytes}
-use Rattle.rex_report.specs.declared.effect.Effect.{Effect}
 use Rattle.rex_report.specs.declared.effect.Effect.TheVariants as effect
-use Rattle.rex_cluster.specs.Records.{Rec, Proposal, base, known, last_accepted, from_on}
 use Rattle.rex_cluster.specs.Records.Rec.{Transferred}
-use Rattle.rex_cluster.specs.Node.{Failure, Message, Work, down_node, is_active, no_work}
-use Rattle.rex_cluster.specs.Calls.{append, follow, followed, logged, on_snapshot, replayed_left, say, with_replayed, work_left}
-use Rattle.rex_cluster.specs.Values.{Value, service_of, trace_of, values_fit}
-use Rattle.rex_cluster.specs.Lanes.{CallHere}
-use Rattle.rex_cluster.proofs.Replies.{state_is}
-use Rattle.rex_cluster.proofs.Lists.{length_push}
-use Rattle.rex_log.specs.Log.{first, log_of, proposal_in, read_state, rec_of, standing_in}
-use Rattle.rex_log.specs.Messages.{message_in}
-use Rattle.rex_log.proofs.Accepting.{above_from}
-use Rattle.rex_log.proofs.Firsts.{first_length}
-use Rattle.rex_log.proofs.Pasts.{log_then}
-use Rattle.rex_node.specs.declared.going.Going.TheVariants.{On, Down}
-use Rattle.rex_node.specs.declared.step.Draft.{Draft}
-use Rattle.rex_node.specs.Stated.{is_stated}
-use Rattle.rex_node.specs.Telling.{LeadTo, fallen_moved}
-use Rattle.rex_node.specs.Parts.{NodeValue, IsResting, IsUp, ahead_left, failed_records, fallen, here_of, leaving, role_of, work_of, IsDown}
-use Rattle.rex_node.specs.Calls.{armed_with}
-use Rattle.rex_node.specs.Going.{Appends, Fell, IsStuck, Leads, RunsOn, Tells, so_far}
+use Rattle.rex_cluster.specs.Calls.{with_replayed}
+use Rattle.rex_node.specs.Telling.{LeadTo}
 use Rattle.rex_node.proofs.Appended.{IsLogged, appended_here, appended_leads, appended_log, call_at, logged_of, up_of}
 use Rattle.rex_node.proofs.Following.{EndsWell, ends_same, far, within}
 use Rattle.rex_node.proofs.Stuck.{breaks_here}

@@ -1,45 +1,14 @@
 -- A node that leads proposes a value: it accepts the value itself and counts that.
-use Rattle.std.proofs.Common.{◌≡◌, ℕ, suc, ◌+◌, ◌<◌, ◌≤◌, Bool, true, false, cond, List, [], ◌∷◌, ◌++◌, length, Option, Some, None, inr, refl, sym, ap, subst, ◌∙◌, arith}
-use Rattle.std.specs.Prelude.{map, max, take, is_some, option_map, IfSome, IsSome, unwrap_or}
-use Rattle.rex_ballot.specs.Limits.{most_nodes}
-use Rattle.rex_ballot.specs.declared.proposal.Proposal.{Proposal as Kept}
+use Rattle.rex_node.proofs.Common.{◌≡◌, ℕ, suc, ◌+◌, ◌<◌, ◌≤◌, Bool, true, false, cond, List, [], ◌∷◌, ◌++◌, length, Option, Some, None, inr, refl, sym, ap, subst, ◌∙◌, arith, map, max, is_some, option_map, IfSome, IsSome, unwrap_or, most_nodes, Kept, IsValue, proposal_for, AcceptorValue, accepting, ProposerValue, proposed, counted_none, counted_push, Declarations, StateValue, start_of, run, Answer, KeptRec, HasSpelling, record_bytes, Effect, Rec, Proposal, proposal_of, offset, Accepted, Failure, Leading, Accept, LeadFits, RoleFits, logged, leading, led, others, propose, say, send, Value, trace_of, values_fit, CallHere, same_Some, Going, On, Down, Draft, content_in, message_in, log_of, proposal_in, NodeValue, ActingValue, ActsFor, IsActing, IsProposer, Proposes, IsCutAt, IsUp, IsKept, HasOpen, OpenIsCut, AreShort, Keeps, Falls, here_of, lead_of, open_of, role_of, HasDecoded, HasReached, armed_with, Appends, BreaksOff, Comes, LosesFirst, so_far, FromLead, IsOwnCut, Opens, OpensShort, accept_own, opened}
+use Rattle.std.specs.Prelude.{take}
 use Rattle.rex_ballot.specs.Ballot as ballots
-use Rattle.rex_ballot.specs.Proposals.{IsValue, proposal_for}
 use Rattle.rex_ballot.proofs.Lists.{proposals_are_replaced}
-use Rattle.rex_paxos.specs.Acceptor.{AcceptorValue, accepting}
 use Rattle.rex_paxos.specs.Counting as counting
-use Rattle.rex_paxos.specs.Proposer.{ProposerValue, CountsOnce, proposed}
-use Rattle.rex_paxos.proofs.Counted.{counted_none, counted_push}
-use Rattle.rex_syntax.specs.declared.service.Declarations.{Declarations}
-use Rattle.rex_state.specs.Value.{StateValue}
-use Rattle.rex_state.specs.Start.{start_of}
-use Rattle.rex_state.specs.Machine.{run}
-use Rattle.rex_traits.specs.Chains.{Answer}
-use Rattle.rex_durable.specs.declared.records.Rec.{Rec as KeptRec}
+use Rattle.rex_paxos.specs.Proposer.{CountsOnce}
 use Rattle.rex_durable.specs.declared.records.Rec.TheVariants as kept
-use Rattle.rex_durable.specs.Spelling.{HasSpelling, record_bytes}
-use Rattle.rex_report.specs.declared.effect.Effect.{Effect}
 use Rattle.rex_report.specs.declared.effect.Effect.TheVariants as effect
 use Rattle.rex_msg.specs.declared.message.Content.TheVariants as sent
-use Rattle.rex_cluster.specs.Records.{Rec, Proposal, proposal_of, offset}
-use Rattle.rex_cluster.specs.Records.Rec.{Accepted}
-use Rattle.rex_cluster.specs.Node.{Failure}
-use Rattle.rex_cluster.specs.Node.Role.{Leads as Leading}
-use Rattle.rex_cluster.specs.Node.Content.{Accept}
-use Rattle.rex_cluster.specs.Ranges.{IsInstance, LeadFits, RoleFits}
-use Rattle.rex_cluster.specs.Calls.{logged, leading, led, others, propose, say, send}
-use Rattle.rex_cluster.specs.Values.{Value, trace_of, values_fit}
-use Rattle.rex_cluster.specs.Lanes.{CallHere}
-use Rattle.std.proofs.lemmas.Option.{same_Some}
-use Rattle.rex_node.specs.declared.going.Going.{Going}
-use Rattle.rex_node.specs.declared.going.Going.TheVariants.{On, Down}
-use Rattle.rex_node.specs.declared.step.Draft.{Draft}
-use Rattle.rex_log.specs.Messages.{content_in, message_in}
-use Rattle.rex_log.specs.Log.{log_of, proposal_in}
-use Rattle.rex_node.specs.Parts.{NodeValue, ActingValue, ActsFor, IsActing, IsProposer, Proposes, IsCutAt, IsUp, IsKept, HasOpen, OpenIsCut, AreShort, Keeps, Falls, here_of, lead_of, open_of, role_of, HasDecoded, HasReached}
-use Rattle.rex_node.specs.Calls.{armed_with}
-use Rattle.rex_node.specs.Going.{Appends, BreaksOff, Comes, LosesFirst, so_far}
-use Rattle.rex_node.specs.Leading.{FromLead, IsOwnCut, Opens, OpensShort, accept_own, opened}
+use Rattle.rex_cluster.specs.Ranges.{IsInstance}
 use Rattle.rex_node.proofs.Appended.{fits_ballot, instance_fits, logged_accepted, logged_of, beside_of, up_of, IsLogged, Beside}
 use Rattle.rex_node.proofs.GoingLemmas.{leads_same, leads_then}
 use Rattle.rex_node.proofs.Written.{appends_as, call_is, broken_written, log_written, written_on, written_down}

@@ -1,26 +1,9 @@
 -- How a call goes on where its node has proposed a value.
-use Rattle.std.proofs.Common.{◌≡◌, ℕ, zero, suc, ◌+◌, ◌*◌, ◌<◌, ◌≤◌, Bool, true, false, cond, List, [], ◌∷◌, length, Option, Some, None, refl, sym, ap, subst, ◌∙◌, arith}
-use Rattle.std.specs.Prelude.{IfSome, is_some, option_map}
-use Rattle.rex_ballot.specs.declared.proposal.Proposal.{Proposal as Kept}
+use Rattle.rex_node.proofs.Common.{◌≡◌, ℕ, zero, suc, ◌+◌, ◌*◌, ◌<◌, ◌≤◌, Bool, true, false, cond, List, [], ◌∷◌, length, Option, Some, None, refl, sym, ap, subst, ◌∙◌, arith, IfSome, is_some, option_map, Kept, AcceptorValue, accepting, ProposerValue, is_candidate, proposed, counted_none, counted_push, Proposal, proposal_of, is_majority, Service, Lead, Role, Failure, After, leading, led, decide, lead, turn, settle, enough, Value, CallHere, StateValue, armed_with, proposal_in, NodeValue, Proposes, lead_of, role_of, FromLead}
 use Rattle.rex_ballot.specs.Ballot.{node_of}
 use Rattle.rex_ballot.proofs.Lists.{proposal_for-with}
-use Rattle.rex_paxos.specs.Acceptor.{AcceptorValue, accepting}
 use Rattle.rex_paxos.specs.Counting as counting
-use Rattle.rex_paxos.specs.Proposer.{ProposerValue, is_candidate, proposed}
-use Rattle.rex_paxos.proofs.Counted.{counted_none, counted_push}
-use Rattle.rex_cluster.specs.Records.{Proposal, proposal_of}
-use Rattle.rex_cluster.specs.Quorum.{is_majority}
-use Rattle.rex_cluster.specs.Node.{Service, Lead, Role, Failure}
-use Rattle.rex_cluster.specs.Node.Failure.{After}
 use Rattle.rex_cluster.specs.Node.Role.{Leads}
-use Rattle.rex_cluster.specs.Calls.{leading, led, decide, lead, turn, settle, enough}
-use Rattle.rex_cluster.specs.Values.{Value}
-use Rattle.rex_cluster.specs.Lanes.{CallHere}
-use Rattle.rex_state.specs.Value.{StateValue}
-use Rattle.rex_node.specs.Calls.{armed_with}
-use Rattle.rex_log.specs.Log.{proposal_in}
-use Rattle.rex_node.specs.Parts.{NodeValue, Proposes, lead_of, role_of}
-use Rattle.rex_node.specs.Leading.{FromLead}
 use Rattle.rex_node.proofs.Bridges.{majority_is}
 
 -- ---- what a node leads with

@@ -1,34 +1,13 @@
 -- A node proposes the piece that it has made.
-use Rattle.std.proofs.Common.{◌≡◌, ℕ, suc, ◌+◌, ◌<◌, true, false, cond, List, [], ◌∷◌, ◌++◌, length, Option, Some, None, Result, Ok, Err, inl, inr, refl, sym, ap, subst, ◌∙◌, arith}
-use Rattle.std.specs.Prelude.{IfSome, IfOk, OnErr, is_some, is_err, nat_le, option_map}
-use Rattle.std.proofs.lemmas.Bool.{false≢true, lt-leb}
-use Rattle.rex_syntax.specs.declared.service.Declarations.{Declarations}
-use Rattle.rex_syntax.specs.Service.{IsService}
-use Rattle.rex_event.specs.declared.event.Event.{Event}
-use Rattle.rex_event.specs.Cuts.{below}
-use Rattle.rex_cut.specs.Greatest.{greatest_cut}
-use Rattle.rex_paxos.specs.Proposer.{ProposerValue}
+use Rattle.rex_node.proofs.Common.{◌≡◌, ℕ, suc, ◌+◌, ◌<◌, true, false, cond, List, [], ◌∷◌, ◌++◌, length, Option, Some, None, Result, Ok, Err, inl, inr, refl, sym, ap, subst, ◌∙◌, arith, IfSome, IfOk, OnErr, is_some, nat_le, option_map, false≢true, lt-leb, Declarations, IsService, Event, below, greatest_cut, ProposerValue, Answer, known, Lead, Failure, enough, propose, say, settle, Value, service_of, values_fit, CallHere, Here, active_only, cut_lead, cut_live, cut_role, is_faithful, value_at, Going, On, Down, Piece, Draft, StopsShort, armed_with, counts_for, BreaksOff, Ends, Fell, IsStuck, LeadsOn, so_far, FromLead, IsOwnCut, IsIdle, IsPieceOf, ProposesCut, ProposesCutShort, ProposesPiece, ProposesPieceShort, counts_in, cut_in, ActingValue, NodeValue, Executes, IsCutAt, IsResting, IsUp, RunsShort, Stands, here_of, lead_of, open_of, role_of, work_of, log_of}
+use Rattle.std.specs.Prelude.{is_err}
 use Rattle.rex_report.specs.declared.effect.Effect.TheVariants as effect
-use Rattle.rex_traits.specs.Chains.{Answer}
-use Rattle.rex_cluster.specs.Records.{known}
-use Rattle.rex_cluster.specs.Node.{Lead, Failure}
-use Rattle.rex_cluster.specs.Calls.{enough, propose, say, settle}
-use Rattle.rex_cluster.specs.Values.{Value, service_of, values_fit}
 use Rattle.rex_cluster.specs.Lanes as lanes
-use Rattle.rex_cluster.specs.Lanes.{CallHere, Here, active_only, cut_lead, cut_live, cut_role, is_faithful, propose_cut, value_at}
-use Rattle.rex_node.specs.declared.going.Going.{Going}
-use Rattle.rex_node.specs.declared.going.Going.TheVariants.{On, Down}
-use Rattle.rex_node.specs.declared.pieces.Piece.{Piece}
-use Rattle.rex_node.specs.declared.step.Draft.{Draft}
-use Rattle.rex_node.specs.Calls.{StopsShort, armed_with, counts_for}
-use Rattle.rex_node.specs.Going.{BreaksOff, Ends, Fell, IsStuck, Leads as LeadsOn, so_far}
-use Rattle.rex_node.specs.Leading.{FromLead, IsOwnCut}
-use Rattle.rex_node.specs.Cutting.{HasPiece, IsIdle, IsOwnPiece, IsPieceOf, ProposesCut, ProposesCutShort, ProposesPiece, ProposesPieceShort, counts_in, cut_at, cut_before, cut_in, with_cut}
-use Rattle.rex_node.specs.Parts.{ActingValue, NodeValue, Executes, IsCutAt, IsResting, IsUp, RunsShort, Stands, here_of, lead_of, open_of, role_of, work_of}
+use Rattle.rex_cluster.specs.Lanes.{propose_cut}
+use Rattle.rex_node.specs.Cutting.{HasPiece, IsOwnPiece, cut_at, cut_before, with_cut}
 use Rattle.rex_node.proofs.Dues.{counts_are}
 use Rattle.rex_node.proofs.Executing.{executes}
 use Rattle.rex_node.proofs.GoingLemmas.{leads_fell, leads_same, leads_then}
-use Rattle.rex_log.specs.Log.{log_of}
 use Rattle.rex_node.proofs.Stuck.{breaks_as, breaks_kept}
 use Rattle.rex_node.proofs.Openings.{from_lead, lead_from}
 use Rattle.rex_node.proofs.ProposedCuts.{idle_leads}

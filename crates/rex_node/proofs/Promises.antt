@@ -1,35 +1,12 @@
 -- What a node does on a Prepare and on an Accept.
-use Rattle.std.proofs.Common.{◌≡◌, ℕ, ◌<◌, Bool, true, false, List, [], ◌∷◌, Option, None, refl, sym, ap, subst, ◌∙◌, arith, le_refl}
-use Rattle.std.specs.Prelude.{◌≤◌, map, not, nat_le, nat_lt, is_some, cond, Result, Ok, Err, OnErr}
-use Rattle.std.proofs.lemmas.Bool.{lt-ltb, le-ltb, lt-leb, le-leb}
+use Rattle.rex_node.proofs.Common.{◌≡◌, ℕ, ◌<◌, Bool, true, false, List, [], ◌∷◌, Option, None, refl, sym, ap, subst, ◌∙◌, arith, le_refl, map, nat_le, nat_lt, is_some, OnErr, lt-ltb, le-ltb, lt-leb, le-leb, IsInstance, IsValue, from_instance, proposal_for, AcceptorValue, accepting, answer_to_accept, is_of_ballot, promising, Declarations, KeptRec, HasSpelling, record_bytes, Answer, promise, accepted, offset, known, from_on, Promised, Accepted, Failure, Promise, Voted, Nack, answer, answer_base, append, follow, followed, has_last, logged, on_accept, on_prepare, send, Value, CallHere, Begins, AreRising, accepted_rising, Draft, Going, On, Down, armed_with, Appends, Fell, IsStuck, Sends, Tells, TellsBase, answering, so_far, log_of, proposal_in, NodeValue, IsUp, IsResting, here_of, leaving, role_of, IsDown}
+use Rattle.std.specs.Prelude.{◌≤◌, not, cond, Result, Ok, Err}
 use Rattle.rex_msg.specs.declared.message.Content.TheVariants as sent
-use Rattle.rex_ballot.specs.Ballot.{IsBallot, IsInstance}
-use Rattle.rex_ballot.specs.Proposals.{IsValue, from_instance, proposal_for}
-use Rattle.rex_paxos.specs.Acceptor.{AcceptorValue, accepting, answer_to_accept, is_of_ballot, promising}
+use Rattle.rex_ballot.specs.Ballot.{IsBallot}
 use Rattle.rex_paxos.specs.declared.answers.Asked.TheVariants as asked
-use Rattle.rex_syntax.specs.declared.service.Declarations.{Declarations}
-use Rattle.rex_durable.specs.declared.records.Rec.{Rec as KeptRec}
 use Rattle.rex_durable.specs.declared.records.Rec.TheVariants as kept
-use Rattle.rex_durable.specs.Spelling.{HasSpelling, record_bytes}
 use Rattle.rex_report.specs.declared.effect.Effect.TheVariants as effect
-use Rattle.rex_traits.specs.Chains.{Answer}
-use Rattle.rex_cluster.specs.Records.{promise, accepted, offset, known, from_on}
-use Rattle.rex_cluster.specs.Records.Rec.{Promised, Accepted}
-use Rattle.rex_cluster.specs.Node.{Failure}
-use Rattle.rex_cluster.specs.Node.Content.{Promise, Accepted as Voted, Nack}
-use Rattle.rex_cluster.specs.Calls.{answer, answer_base, append, follow, followed, has_last, logged, on_accept, on_prepare, promised, send}
-use Rattle.rex_cluster.specs.Values.{Value}
-use Rattle.rex_cluster.specs.Lanes.{CallHere}
-use Rattle.rex_cluster.specs.Invariant.{Begins}
-use Rattle.rex_cluster.specs.Ranges.{AreRising}
-use Rattle.rex_cluster.proofs.Ranged.{accepted_rising}
-use Rattle.rex_node.specs.declared.step.Draft.{Draft}
-use Rattle.rex_node.specs.declared.going.Going.{Going}
-use Rattle.rex_node.specs.declared.going.Going.TheVariants.{On, Down}
-use Rattle.rex_node.specs.Calls.{armed_with}
-use Rattle.rex_node.specs.Going.{Appends, Fell, IsStuck, Sends, Tells, TellsBase, answering, so_far}
-use Rattle.rex_log.specs.Log.{log_of, proposal_in}
-use Rattle.rex_node.specs.Parts.{NodeValue, IsUp, IsResting, here_of, leaving, role_of, IsDown}
+use Rattle.rex_cluster.specs.Calls.{promised}
 use Rattle.rex_node.proofs.Appended.{ballot_fits, instance_fits, logged_of, logged_promised, logged_accepted, IsLogged}
 use Rattle.rex_node.proofs.Bases.{tells_base}
 use Rattle.rex_node.proofs.Instances.{from_kept, last_kept, rising_zero}

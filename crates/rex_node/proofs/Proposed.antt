@@ -1,32 +1,15 @@
 -- An open proposal stays the cut that was proposed last where an event is recorded.
-use Rattle.std.proofs.Common.{◌≡◌, ℕ, true, false, cond, not, ◌⊎◌, inl, inr, List, [], ◌∷◌, ◌++◌, refl, sym, ap, subst, ◌∙◌, arith, le_trans, le-ltb, append-nil, Option, Some, None}
-use Rattle.std.proofs.lemmas.Bool.{false≢true, eqb-true}
+use Rattle.rex_node.proofs.Common.{◌≡◌, ℕ, true, false, cond, not, ◌⊎◌, inl, inr, List, [], ◌∷◌, ◌++◌, refl, sym, ap, subst, ◌∙◌, arith, le_trans, append-nil, Option, Some, None, false≢true, eqb-true, Lcg, Request, Declarations, IsService, Event, count_at, is_below, below, beyond, IsConsistent, IsWithin, StateValue, start_of, run, lane_of, GoesFirst, counts_of, run-then, runs_rise, cuts_go_first, Turn, IsRecorder, Proposal, Value, trace_of, state_after, state_is, trace_push, ActingValue, Executes, IsCutAt, OpenIsCut}
+use Rattle.std.proofs.Common.{le-ltb}
 use Rattle.std.proofs.lemmas.List.Elements.{filter-append}
-use Rattle.rand_pcg.specs.Lcg.{Lcg}
-use Rattle.rex_syntax.specs.declared.request.Request.{Request}
-use Rattle.rex_syntax.specs.declared.service.Declarations.{Declarations}
-use Rattle.rex_syntax.specs.Service.{IsService}
-use Rattle.rex_event.specs.declared.event.Event.{Event}
 use Rattle.rex_event.specs.Order.{Has, Precedes, ConflictsBefore, Chain}
-use Rattle.rex_event.specs.Cuts.{count_at, is_below, below, beyond, IsConsistent, IsWithin}
-use Rattle.rex_state.specs.Value.{StateValue}
-use Rattle.rex_state.specs.Start.{start_of}
-use Rattle.rex_state.specs.Machine.{run, next, lane_of}
-use Rattle.rex_state.specs.Commute.{GoesFirst}
-use Rattle.rex_state.specs.Counts.{counts_of}
+use Rattle.rex_state.specs.Machine.{next}
 use Rattle.rex_state.proofs.Keep.{IsNext, next_is}
-use Rattle.rex_state.proofs.Run.{run-then, run-push, run-first}
-use Rattle.rex_state.proofs.Counts.{count_is, runs_rise}
-use Rattle.rex_state.proofs.Cuts.{cuts_go_first}
-use Rattle.rex_record.specs.declared.turns.Turn.{Turn}
+use Rattle.rex_state.proofs.Run.{run-push, run-first}
+use Rattle.rex_state.proofs.Counts.{count_is}
 use Rattle.rex_record.specs.declared.turns.Turn.TheVariants as turn
 use Rattle.rex_record.specs.Value.{live_after}
 use Rattle.rex_record.specs.Value as recorders
-use Rattle.rex_record.specs.Kept.{IsRecorder}
-use Rattle.rex_cluster.specs.Records.{Proposal}
-use Rattle.rex_cluster.specs.Values.{Value, trace_of, state_after}
-use Rattle.rex_cluster.proofs.Replies.{state_is, trace_push}
-use Rattle.rex_node.specs.Parts.{ActingValue, Executes, IsCutAt, OpenIsCut}
 
 -- ---- consistent cuts
 

@@ -1,30 +1,9 @@
 -- How a node ends a call in which it has proposed a cut.
-use Rattle.std.proofs.Common.{◌≡◌, ℕ, ◌+◌, ◌*◌, ◌<◌, ◌≤◌, Bool, true, false, not, List, [], ◌∷◌, length, Result, Option, Some, None, Ok, Err, inl, inr, refl, sym, ap, subst, ◌∙◌}
-use Rattle.std.specs.Prelude.{IfOk, OnErr, is_some, option_map}
-use Rattle.std.proofs.lemmas.Bool.{false≢true}
-use Rattle.rex_ballot.specs.Limits.{most_nodes}
-use Rattle.rex_paxos.specs.Acceptor.{AcceptorValue, accepting}
+use Rattle.rex_node.proofs.Common.{◌≡◌, ℕ, ◌+◌, ◌*◌, ◌<◌, ◌≤◌, Bool, true, false, not, List, [], ◌∷◌, length, Result, Option, Some, None, Ok, Err, inl, inr, refl, sym, ap, subst, ◌∙◌, IfOk, OnErr, is_some, option_map, false≢true, most_nodes, AcceptorValue, accepting, ProposerValue, is_candidate, proposed, closed, Declarations, Effect, Answer, StateValue, proposal_of, is_majority, Service, Lead, Role, leading, led, propose, decide, settle, enough, Value, service_of, CallHere, Going, On, Down, Draft, BreaksOff, Comes, Ends, Fell, IsStuck, LeadsOn, LosesFirst, so_far, ActingValue, NodeValue, HasDecoded, HasGoneOn, IsKept, IsResting, IsProposer, IsSame, Proposes, here_of, lead_of, role_of, IsDown, HasLearned, HasOpened, Learns, LearnsShort, Opens, OpensShort, accept_own, settling, IsIdle, ProposesCut, ProposesCutShort}
 use Rattle.rex_paxos.specs.Counting as counting
-use Rattle.rex_paxos.specs.Proposer.{ProposerValue, is_candidate, proposed, closed}
-use Rattle.rex_syntax.specs.declared.service.Declarations.{Declarations}
-use Rattle.rex_report.specs.declared.effect.Effect.{Effect}
 use Rattle.rex_report.specs.declared.effect.Effect.TheVariants as effect
-use Rattle.rex_traits.specs.Chains.{Answer}
-use Rattle.rex_state.specs.Value.{StateValue}
-use Rattle.rex_cluster.specs.Records.{proposal_of}
-use Rattle.rex_cluster.specs.Quorum.{is_majority}
-use Rattle.rex_cluster.specs.Node.{Service, Lead, Role}
 use Rattle.rex_cluster.specs.Node.Role.{Leads}
-use Rattle.rex_cluster.specs.Calls.{leading, led, propose, decide, settle, enough}
-use Rattle.rex_cluster.specs.Values.{Value, service_of}
-use Rattle.rex_cluster.specs.Lanes.{CallHere}
-use Rattle.rex_node.specs.declared.going.Going.{Going}
-use Rattle.rex_node.specs.declared.going.Going.TheVariants.{On, Down}
-use Rattle.rex_node.specs.declared.step.Draft.{Draft}
-use Rattle.rex_node.specs.Going.{BreaksOff, Comes, Ends, Fell, IsStuck, Leads as LeadsOn, LosesFirst, so_far}
-use Rattle.rex_node.specs.Parts.{ActingValue, NodeValue, HasDecoded, HasGoneOn, IsKept, IsResting, IsProposer, IsSame, Proposes, here_of, lead_of, role_of, IsDown}
-use Rattle.rex_node.specs.Leading.{HasLearned, HasOpened, Learns, LearnsShort, Opens, OpensShort, accept_own, settling}
-use Rattle.rex_node.specs.Cutting.{IsIdle, ProposesCut, ProposesCutShort, has_open}
+use Rattle.rex_node.specs.Cutting.{has_open}
 use Rattle.rex_node.proofs.GoingLemmas.{leads_fell, leads_same, leads_then}
 use Rattle.rex_node.proofs.Stuck.{breaks_after, settle_loses}
 use Rattle.rex_node.proofs.Openings.{candidate_same, from_lead, knows_at_once, lead_from, opened_role, own_majority, proposed_closed, proposed_open, settles_active, stays_open}

@@ -1,36 +1,18 @@
 -- The counts below which a node cuts are a cut of its live events, and what it proposes is faithful.
-use Rattle.std.proofs.Common.{◌≡◌, ℕ, ◌≤◌, true, List, [], ◌∷◌, ◌++◌, length, Option, Some, None, Ok, sym, ap, subst, ◌∙◌}
+use Rattle.rex_node.proofs.Common.{◌≡◌, ℕ, ◌≤◌, true, List, [], ◌∷◌, ◌++◌, length, Option, Some, None, Ok, sym, ap, subst, ◌∙◌, and_parts, length-map, Declarations, IsService, Event, IsConsistent, IsWithin, below, beyond, delta_in, start_of, run, GoesFirst, counts_of, runs_rise, cuts_go_first, run-then, IsRecorder, value_at, is_faithful, Value, read_delta, events_of, trace_of, state_after, values_fit, trace_push, state_is, Piece, IsPieceOf, counts_in, cut_in, ActingValue, Executes, IsCutAt}
 use Rattle.std.proofs.Math.Nat.{le_refl, le_trans}
-use Rattle.std.proofs.lemmas.Bool.{and_parts}
-use Rattle.std.proofs.lemmas.List.{length-map}
-use Rattle.rex_syntax.specs.declared.service.Declarations.{Declarations}
-use Rattle.rex_syntax.specs.Service.{IsService}
 use Rattle.rex_event.specs.Limits.{most_lanes}
-use Rattle.rex_event.specs.declared.event.Event.{Event}
-use Rattle.rex_event.specs.Cuts.{IsConsistent, IsWithin, below, beyond}
 use Rattle.rex_cut.specs.Delta.{delta_at}
 use Rattle.rex_cut.specs.Greatest.{IsCutOf}
 use Rattle.rex_cut.proofs.Highest.{greatest_is}
-use Rattle.rex_delta.specs.Reading.{delta_in}
-use Rattle.rex_state.specs.Start.{start_of}
-use Rattle.rex_state.specs.Machine.{run}
-use Rattle.rex_state.specs.Commute.{GoesFirst}
-use Rattle.rex_state.specs.Counts.{CountsOn, counts_of, done_of}
-use Rattle.rex_state.proofs.Counts.{RiseBy, runs_count_on, runs_rise}
-use Rattle.rex_state.proofs.Cuts.{cuts_go_first}
-use Rattle.rex_state.proofs.Run.{run-then}
-use Rattle.rex_record.specs.Kept.{IsRecorder}
-use Rattle.rex_cluster.specs.Lanes.{value_at, is_faithful}
+use Rattle.rex_state.specs.Counts.{CountsOn, done_of}
+use Rattle.rex_state.proofs.Counts.{RiseBy, runs_count_on}
 use Rattle.rex_cluster.specs.Same.{same_events}
-use Rattle.rex_cluster.specs.Values.{Value, read_delta, events_of, trace_of, state_after, values_fit, still_live}
+use Rattle.rex_cluster.specs.Values.{still_live}
 use Rattle.rex_cluster.proofs.Acting.{IsLiveCut, beyond_same}
 use Rattle.rex_cluster.proofs.Between.{between_long, between_from, between_to}
 use Rattle.rex_cluster.proofs.Faithful.{faithful_at}
-use Rattle.rex_cluster.proofs.Replies.{trace_push, state_is}
-use Rattle.rex_node.specs.declared.pieces.Piece.{Piece}
 use Rattle.rex_node.specs.Calls.{AreLimits}
-use Rattle.rex_node.specs.Cutting.{IsPieceOf, counts_in, cut_in}
-use Rattle.rex_node.specs.Parts.{ActingValue, Executes, IsCutAt}
 
 -- ---- counts
 

@@ -1,15 +1,8 @@
 -- The state to which a node came last by replaying.
-use Rattle.std.proofs.Common.{le_trans, ◌≡◌, ◌≤◌, ℕ, zero, suc, List, length, take, Option, Some, None, inl, inr, refl, sym, ap, subst, ◌∙◌}
-use Rattle.std.specs.Prelude.{◌++◌, ◌==◌, Bool, true, false, if◌then◌else◌}
-use Rattle.rex_syntax.specs.declared.service.Declarations.{Declarations}
-use Rattle.rex_state.specs.Value.{StateValue}
-use Rattle.rex_state.specs.Start.{start_of}
-use Rattle.rex_state.specs.Machine.{run}
-use Rattle.rex_cluster.specs.Values.{Value, trace_of}
-use Rattle.rex_node.specs.Parts.{HasReached, IsReached, NodeValue, ReachedValue, knows, reached_at}
-use Rattle.rex_node.specs.Restarting.{BeginAlike, KeepsReached}
-use Rattle.rex_durable.specs.declared.recovery.Recovered.{Recovered}
-use Rattle.rex_log.specs.Log.{first}
+use Rattle.rex_node.proofs.Common.{le_trans, ◌≡◌, ◌≤◌, ℕ, zero, suc, List, length, take, Option, Some, None, inl, inr, refl, sym, ap, subst, ◌∙◌, ◌==◌, if◌then◌else◌, Declarations, StateValue, start_of, run, Value, trace_of, HasReached, NodeValue, ReachedValue, knows, reached_at, KeepsReached, Recovered, first}
+use Rattle.std.specs.Prelude.{◌++◌, Bool, true, false}
+use Rattle.rex_node.specs.Parts.{IsReached}
+use Rattle.rex_node.specs.Restarting.{BeginAlike}
 
 -- a node that keeps none
 pub bare_reached : (service : Declarations) (offset : ℕ) (values : List Value) {o : Option ReachedValue} → o ≡ None → HasReached service offset values o

@@ -1,29 +1,16 @@
 -- A keeper whose records are all read.
-use Rattle.std.proofs.Common.{◌≡◌, ℕ, suc, ◌+◌, ◌<◌, ◌≤◌, Bool, true, false, List, [], ◌∷◌, ◌++◌, length, take, drop, Result, Ok, Err, refl, sym, ap, subst, ◌∙◌, inl, inr, arith, length-append, take-append-drop}
-use Rattle.std.specs.Prelude.{map, is_ok, slice_index_or, Option, Some, None, if◌then◌else◌}
-use Rattle.std.specs.List.{cons_option, list_all}
+use Rattle.rex_node.proofs.Common.{◌≡◌, ℕ, suc, ◌+◌, ◌<◌, ◌≤◌, Bool, true, false, List, [], ◌∷◌, ◌++◌, length, take, drop, Result, Ok, Err, refl, sym, ap, subst, ◌∙◌, inl, inr, arith, length-append, take-append-drop, map, is_ok, slice_index_or, if◌then◌else◌, cons_option, list_all, and_parts, and_from, list_all-append, Declarations, StateValue, KeptRec, record_bytes, record_in, Delta, delta_in, Rec, known, Value, is_piece, spells, Place, log_of, log_with, rec_of, standing_in, IsRestartFault, bad_at, bad_in, first_bad, place_or, AreStated, is_stated}
+use Rattle.std.specs.Prelude.{Option, Some, None}
 use Rattle.std.proofs.Math.Seq.{drop-cons}
-use Rattle.std.proofs.lemmas.Bool.{and_parts, and_from}
-use Rattle.std.proofs.lemmas.List.Folds.{list_all-append}
 use Rattle.std.proofs.lemmas.List.Sums.{fold-append}
-use Rattle.rex_syntax.specs.declared.service.Declarations.{Declarations}
-use Rattle.rex_state.specs.Value.{StateValue}
-use Rattle.rex_durable.specs.declared.records.Rec.{Rec as KeptRec}
 use Rattle.rex_durable.specs.declared.records.Rec.TheVariants as rec
-use Rattle.rex_durable.specs.Spelling.{record_bytes}
-use Rattle.rex_durable.specs.Reading.{record_in}
 use Rattle.rex_durable.specs.Recovery as durable
 use Rattle.rex_durable.specs.Kept.{IsFirstBad}
-use Rattle.rex_event.specs.declared.delta.Delta.{Delta}
-use Rattle.rex_delta.specs.Reading.{delta_in}
-use Rattle.rex_cluster.specs.Records.{Rec, known}
-use Rattle.rex_cluster.specs.Values.{Value, is_piece, may_be_value, spells}
-use Rattle.rex_node.specs.declared.contents.Place.{Place}
+use Rattle.rex_cluster.specs.Values.{may_be_value}
 use Rattle.rex_node.specs.declared.restart.RestartFault.{RestartFault}
 use Rattle.rex_node.specs.declared.restart.RestartFault.TheVariants.{BadRecord, OutOfMemory}
-use Rattle.rex_log.specs.Log.{AreRead, log_behind, log_of, log_with, rec_of, standing_in}
-use Rattle.rex_node.specs.Restarting.{HasFirstBad, IsRestartFault, bad_at, bad_in, first_bad, place_or}
-use Rattle.rex_node.specs.Stated.{AreStated, is_stated}
+use Rattle.rex_log.specs.Log.{AreRead, log_behind}
+use Rattle.rex_node.specs.Restarting.{HasFirstBad}
 use Rattle.rex_node.proofs.Recalling.{recovered_says, stands_behind}
 
 -- ---- the only fault is want of memory

@@ -1,23 +1,10 @@
 -- What was recovered from a node's records is what they say, and the version of its last checkpoint with it.
-use Rattle.std.proofs.Common.{◌≡◌, ℕ, zero, suc, ◌<◌, ◌≤◌, Bool, List, [], ◌∷◌, length, get_or, take, refl, sym, ap, subst, ◌∙◌, arith}
-use Rattle.std.specs.Prelude.{map}
-use Rattle.std.proofs.lemmas.List.{take_all}
-use Rattle.std.proofs.lemmas.List.Sums.{fold_push}
-use Rattle.rex_syntax.specs.declared.service.Declarations.{Declarations}
-use Rattle.rex_state.specs.Value.{StateValue}
-use Rattle.rex_durable.specs.declared.records.Rec.{Rec as KeptRec}
+use Rattle.rex_node.proofs.Common.{◌≡◌, ℕ, zero, suc, ◌<◌, ◌≤◌, Bool, List, [], ◌∷◌, length, get_or, take, refl, sym, ap, subst, ◌∙◌, arith, map, take_all, fold_push, Declarations, StateValue, KeptRec, Recovered, recovered, record_bytes, Spell, counts_all, Rec, has_old_base, Value, log_of, rec_of, standing_in, Says, ends_old, old_in}
 use Rattle.rex_durable.specs.declared.records.Rec.TheVariants as rec
-use Rattle.rex_durable.specs.declared.recovery.Recovered.{Recovered}
-use Rattle.rex_durable.specs.Recovery.{recovered, standing}
-use Rattle.rex_durable.specs.Spelling.{AreRecords, record_bytes}
-use Rattle.rex_durable.specs.Kept.{Spell}
-use Rattle.rex_durable.proofs.OneMore.{counts_all, counts_front, take_one_more}
-use Rattle.rex_cluster.specs.Records.{Rec, has_old_base}
-use Rattle.rex_cluster.specs.Values.{Value}
-use Rattle.rex_log.specs.Log.{log_of, rec_of, standing_in}
-use Rattle.rex_log.specs.Laws.{Says}
+use Rattle.rex_durable.specs.Recovery.{standing}
+use Rattle.rex_durable.specs.Spelling.{AreRecords}
+use Rattle.rex_durable.proofs.OneMore.{counts_front, take_one_more}
 use Rattle.rex_log.proofs.Saying.{Front, front_none, front_more, log_front, records_say, stands_there}
-use Rattle.rex_node.specs.Restarting.{ends_old, old_in}
 
 module _ (service : Declarations) (past : List Value) where
   -- what was recovered from lists of bytes is what they say

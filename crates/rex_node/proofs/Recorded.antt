@@ -1,34 +1,9 @@
 -- A last part of a call that writes one record.
-use Rattle.std.proofs.Common.{◌≡◌, ℕ, ◌≤◌, true, inl, inr, arith, List, [], ◌∷◌, ◌++◌, length, take, Option, None, sym, ap, subst, ◌∙◌}
-use Rattle.std.specs.Prelude.{map, is_some}
-use Rattle.std.proofs.lemmas.Bool.{false≢true}
-use Rattle.std.proofs.lemmas.List.{map-append}
-use Rattle.rex_msg.specs.declared.message.Content.{Content}
-use Rattle.rex_paxos.specs.Acceptor.{AcceptorValue}
-use Rattle.rex_syntax.specs.declared.service.Declarations.{Declarations}
-use Rattle.rex_state.specs.Value.{StateValue}
-use Rattle.rex_durable.specs.declared.records.Rec.{Rec as KeptRec}
-use Rattle.rex_durable.specs.Spelling.{HasSpelling, IsDue, record_bytes}
-use Rattle.rex_report.specs.declared.effect.Effect.{Effect}
-use Rattle.rex_traits.specs.Chains.{Answer}
-use Rattle.rex_cluster.specs.Records.{Rec, base}
-use Rattle.rex_cluster.specs.Node.{Failure}
-use Rattle.rex_cluster.specs.Calls.{answer, append, follow, followed, logged, send}
-use Rattle.rex_cluster.specs.Values.{Value}
-use Rattle.rex_cluster.specs.Lanes.{CallHere}
-use Rattle.rex_node.specs.declared.step.Draft.{Draft}
-use Rattle.rex_node.specs.declared.going.Going.TheVariants.{On, Down}
-use Rattle.rex_log.specs.Messages.{content_in, message_in}
-use Rattle.rex_node.specs.Calls.{armed_with}
-use Rattle.rex_node.specs.Going.{Appends, Fell, IsStuck, Leads, LosesFirst, Sends, Tells, answering, so_far}
-use Rattle.rex_log.specs.Log.{log_of, rec_of, standing_in}
-use Rattle.rex_node.specs.Parts.{NodeValue, IsUp, IsResting, here_of, role_of, leaving, IsDown}
+use Rattle.rex_node.proofs.Common.{◌≡◌, ℕ, ◌≤◌, true, inl, inr, arith, List, [], ◌∷◌, ◌++◌, length, take, Option, None, sym, ap, subst, ◌∙◌, map, is_some, false≢true, map-append, Content, AcceptorValue, Declarations, StateValue, KeptRec, HasSpelling, IsDue, record_bytes, Effect, Answer, Rec, base, Failure, answer, append, follow, followed, logged, send, Value, CallHere, Draft, On, Down, content_in, message_in, armed_with, Appends, Fell, IsStuck, Leads, LosesFirst, Sends, Tells, answering, so_far, log_of, rec_of, standing_in, NodeValue, IsUp, IsResting, here_of, role_of, leaving, IsDown, length_push, is_stated}
 use Rattle.rex_node.proofs.Appended.{IsLogged, call_at, appended_log, appended_here, appended_leads, appended_fell}
 use Rattle.rex_node.proofs.GoingLemmas.{leads_same, leads_then}
 use Rattle.rex_node.proofs.Stuck.{breaks_here}
-use Rattle.rex_cluster.proofs.Lists.{length_push}
 use Rattle.rex_node.proofs.Following.{EndsWell, far, within, follower_here, follower_node}
-use Rattle.rex_node.specs.Stated.{is_stated}
 
 -- ---- more messages
 

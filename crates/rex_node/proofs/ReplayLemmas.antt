@@ -1,30 +1,8 @@
 -- What a node has still to replay leads from the state that it has replayed to the one after all that it knows.
-use Rattle.std.proofs.Common.{◌≡◌, ℕ, ◌≤◌, ◌||◌, inl, eqb, le_refl, Bool, true, false, List, [], ◌∷◌, length, take, drop, refl, sym, ap, subst, ◌∙◌, arith, append-nil}
-use Rattle.std.specs.Prelude.{Option, Some, None, IsSome, is_some, map, ◌==◌, if◌then◌else◌}
-use Rattle.std.proofs.lemmas.Bool.{false≢true}
-use Rattle.std.proofs.lemmas.List.{take_all, take-append-drop}
-use Rattle.rex_syntax.specs.declared.service.Declarations.{Declarations}
-use Rattle.rex_syntax.specs.Service.{IsService}
-use Rattle.rex_syntax.specs.Check.{IsChecked}
-use Rattle.rex_state.specs.Value.{StateValue}
-use Rattle.rex_state.specs.Start.{start_of}
-use Rattle.rex_state.specs.Machine.{run}
-use Rattle.rex_state.specs.Sound.{IsSound}
-use Rattle.rex_state.proofs.Run.{run-then}
-use Rattle.rex_state.proofs.Sounds.{run_keeps, start_keeps}
-use Rattle.rex_report.specs.declared.effect.Effect.TheVariants.{Replayed, UpToDate}
-use Rattle.rex_traits.specs.Chains.{Answer}
-use Rattle.rex_cluster.specs.Records.{known}
-use Rattle.rex_cluster.specs.Node.{is_active}
-use Rattle.rex_cluster.specs.Calls.{begin, say, replay}
-use Rattle.rex_cluster.specs.Lanes.{Here, CallHere}
-use Rattle.rex_cluster.specs.Values.{Value, runs, trace_of}
-use Rattle.rex_cluster.proofs.Replies.{trace_both, fits_run}
-use Rattle.rex_node.specs.declared.step.Step.{Step}
-use Rattle.rex_log.specs.Messages.{message_in}
-use Rattle.rex_node.specs.Calls.{Does}
-use Rattle.rex_log.specs.Log.{log_of}
-use Rattle.rex_node.specs.Parts.{NodeValue, IsKept, IsResting, IsUp, StaysResting, here_of, reached_at}
+use Rattle.rex_node.proofs.Common.{◌≡◌, ℕ, ◌≤◌, ◌||◌, inl, eqb, le_refl, Bool, true, false, List, [], ◌∷◌, length, take, drop, refl, sym, ap, subst, ◌∙◌, arith, append-nil, IsSome, is_some, map, ◌==◌, if◌then◌else◌, false≢true, take_all, Declarations, IsService, IsChecked, StateValue, start_of, run, IsSound, run-then, run_keeps, start_keeps, Replayed, Answer, known, is_active, begin, say, replay, Here, CallHere, Value, runs, trace_of, trace_both, fits_run, Step, message_in, Does, log_of, NodeValue, IsKept, IsResting, IsUp, StaysResting, here_of, reached_at}
+use Rattle.std.specs.Prelude.{Option, Some, None}
+use Rattle.std.proofs.lemmas.List.{take-append-drop}
+use Rattle.rex_report.specs.declared.effect.Effect.TheVariants.{UpToDate}
 use Rattle.rex_node.proofs.Appended.{IsLogged, Beside, logged_of, beside_of, up_of}
 use Rattle.rex_node.proofs.Leaving.{role_active}
 use Rattle.rex_node.proofs.Reaching.{now_reached}

@@ -1,28 +1,9 @@
 -- A node comes up with what its records say.
-use Rattle.std.proofs.Common.{◌≡◌, ℕ, ◌<◌, ◌≤◌, Bool, true, List, ◌++◌, take, Option, Some, None, refl, sym, ap, subst, ◌∙◌, arith, take-append-drop}
-use Rattle.std.specs.Prelude.{option_map}
-use Rattle.std.specs.List.{All}
-use Rattle.std.proofs.lemmas.Bool.{false≢true}
-use Rattle.std.proofs.lemmas.List.Elements.{All-weaker}
-use Rattle.rex_ballot.specs.Limits.{most_nodes}
-use Rattle.rex_syntax.specs.declared.service.Declarations.{Declarations}
-use Rattle.rex_ballot.specs.declared.proposal.Proposal.{Proposal as Kept}
-use Rattle.rex_ballot.specs.Proposals.{IsValue}
-use Rattle.rex_state.specs.Value.{StateValue}
-use Rattle.rex_state.specs.Start.{start_of}
-use Rattle.rex_state.specs.Machine.{run}
-use Rattle.rex_snapshot.specs.Reading.{state_in}
-use Rattle.rex_durable.specs.declared.recovery.Recovered.{Recovered}
-use Rattle.rex_durable.specs.Recovery.{recovered}
+use Rattle.rex_node.proofs.Common.{◌≡◌, ℕ, ◌<◌, ◌≤◌, Bool, true, List, ◌++◌, take, Option, Some, None, refl, sym, ap, subst, ◌∙◌, arith, take-append-drop, option_map, All, false≢true, All-weaker, most_nodes, Declarations, Kept, IsValue, StateValue, start_of, run, state_in, Recovered, recovered, Rec, base, known, Value, state_after, trace_of, values_fit, state_is, first, log_of, read_state, Says, NodeValue, IsUp, here_of, whole, HasDecoded, HasReached, ReachedValue, knows, IsRecalled, IsSaved, decoded_last, KeepsReached}
 use Rattle.rex_durable.specs.Laws.{HasSnapshot, MayBeAccepted}
-use Rattle.rex_cluster.specs.Records.{Rec, base, known}
 use Rattle.rex_cluster.specs.Agreed.{base_state}
-use Rattle.rex_cluster.specs.Values.{Value, state_after, trace_of, values_fit}
-use Rattle.rex_cluster.proofs.Replies.{state_is}
-use Rattle.rex_log.specs.Log.{first, log_of, read_state}
-use Rattle.rex_log.specs.Laws.{Says}
-use Rattle.rex_node.specs.Parts.{NodeValue, IsUp, IsNode, here_of, whole, DecodedValue, HasDecoded, HasReached, ReachedValue, knows}
-use Rattle.rex_node.specs.Restarting.{CameUp, HasForgotten, HasRightBase, IsAsRecovered, IsRecalled, IsSaved, decoded_last, risen, KeepsReached}
+use Rattle.rex_node.specs.Parts.{IsNode, DecodedValue}
+use Rattle.rex_node.specs.Restarting.{CameUp, HasForgotten, HasRightBase, IsAsRecovered, risen}
 use Rattle.rex_node.proofs.Fronts.{front_runs}
 use Rattle.rex_node.proofs.Recalling.{old_base_is, recovered_says}
 use Rattle.rex_node.proofs.Reaching.{again_reached}

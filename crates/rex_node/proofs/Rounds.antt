@@ -1,36 +1,11 @@
 -- A node that leads goes on, a round at a time.
-use Rattle.std.proofs.Common.{◌≡◌, ℕ, zero, suc, ◌+◌, ◌-◌, ◌*◌, ◌≤◌, Bool, true, false, cond, not, ◌||◌, ◌&&◌, List, [], ◌∷◌, ◌++◌, length, Option, Some, None, refl, sym, ap, subst, ◌∙◌, arith, le_refl}
-use Rattle.std.specs.Prelude.{map, is_some, is_none, option_map, unwrap_or, IfSome}
-use Rattle.std.proofs.lemmas.List.Elements.{All-nil}
-use Rattle.rand_pcg.specs.Lcg.{Lcg}
-use Rattle.rex_ballot.specs.declared.proposal.Proposal.{Proposal as Kept}
+use Rattle.rex_node.proofs.Common.{◌≡◌, ℕ, zero, suc, ◌+◌, ◌-◌, ◌*◌, ◌≤◌, Bool, true, false, cond, not, ◌||◌, ◌&&◌, List, [], ◌∷◌, ◌++◌, length, Option, Some, None, refl, sym, ap, subst, ◌∙◌, arith, le_refl, map, is_some, is_none, option_map, unwrap_or, IfSome, All-nil, Lcg, Kept, AreCounted, ProposerValue, is_candidate, Declarations, RequestFits, AnswersValue, answers_at, StateValue, Answer, known, Failure, Lead, Role, Service, Leading, is_majority, LeadFits, RoleFits, Call, best, choose, lead, leading, settle, turn, Value, service_of, trace_of, CallHere, On, Done, Draft, message_in, proposal_in, NodeValue, ActingValue, ActsFor, HasGoneOn, IsActing, IsKept, IsProposer, IsUp, OpenIsCut, Proposes, here_of, lead_of, open_of, role_of, HasReached, ReachedValue, reached_at, armed_with, MayGoOn, above, so_far, GoesRound, IsFree, goes_on, may_lead, reported_value, take_all, run, start_of}
 use Rattle.rex_paxos.specs.Counting as counting
-use Rattle.rex_paxos.specs.Counting.{AreCounted}
-use Rattle.rex_paxos.specs.Proposer.{ProposerValue, is_candidate}
-use Rattle.rex_syntax.specs.declared.service.Declarations.{Declarations}
-use Rattle.rex_schedule.specs.Fits.{RequestFits}
-use Rattle.rex_gate.specs.Noted.{AnswersValue, answers_at}
 use Rattle.rex_record.specs.Value.{RecorderValue, started}
-use Rattle.rex_state.specs.Value.{StateValue}
-use Rattle.rex_traits.specs.Chains.{Answer}
 use Rattle.rex_report.specs.declared.effect.Effect.TheVariants as effect
-use Rattle.rex_cluster.specs.Records.{known}
-use Rattle.rex_cluster.specs.Node.{Failure, Lead, Role, Service, dice_of}
-use Rattle.rex_cluster.specs.Node.Role.{Leads as Leading}
-use Rattle.rex_cluster.specs.Quorum.{is_majority}
-use Rattle.rex_cluster.specs.Ranges.{LeadFits, RoleFits}
-use Rattle.rex_cluster.specs.Calls.{Call, activate, best, choose, lead, leading, settle, turn}
-use Rattle.rex_cluster.specs.Values.{Value, service_of, trace_of}
-use Rattle.rex_cluster.specs.Lanes.{CallHere}
-use Rattle.rex_node.specs.declared.going.Going.TheVariants.{On}
-use Rattle.rex_node.specs.declared.going.Round.TheVariants.{Done}
-use Rattle.rex_node.specs.declared.step.Draft.{Draft}
-use Rattle.rex_log.specs.Messages.{message_in}
-use Rattle.rex_log.specs.Log.{proposal_in}
-use Rattle.rex_node.specs.Parts.{NodeValue, ActingValue, ActsFor, HasGoneOn, IsActing, IsKept, IsProposer, IsUp, OpenIsCut, Proposes, here_of, lead_of, open_of, role_of, HasReached, ReachedValue, reached_at}
-use Rattle.rex_node.specs.Calls.{armed_with}
-use Rattle.rex_node.specs.Going.{MayGoOn, above, so_far}
-use Rattle.rex_node.specs.Leading.{GoesRound, IsActive, IsFree, activated, fresh, goes_on, may_lead, reported_value}
+use Rattle.rex_cluster.specs.Node.{dice_of}
+use Rattle.rex_cluster.specs.Calls.{activate}
+use Rattle.rex_node.specs.Leading.{IsActive, activated, fresh}
 use Rattle.rex_node.proofs.Appended.{beside_of, logged_of, up_of}
 use Rattle.rex_node.proofs.Adopting.{goes_parts, turn_chooses}
 use Rattle.rex_node.proofs.Bridges as bridges
@@ -39,9 +14,6 @@ use Rattle.rex_node.proofs.Opening.{logged_as}
 use Rattle.rex_node.proofs.Stamping.{stamped_in}
 use Rattle.rex_node.proofs.Written.{call_is}
 use Rattle.rex_node.proofs.Reaching.{now_reached}
-use Rattle.std.proofs.lemmas.List.{take_all}
-use Rattle.rex_state.specs.Machine.{run}
-use Rattle.rex_state.specs.Start.{start_of}
 
 -- ---- a node that is active from here on
 

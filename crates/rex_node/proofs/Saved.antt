@@ -1,47 +1,17 @@
 -- A node that writes down a checkpoint does as the model's.
-use Rattle.std.proofs.Common.{◌≡◌, ◌≢◌, ℕ, zero, suc, ◌+◌, ◌<◌, ◌≤◌, inl, inr, Bool, true, false, List, [], ◌∷◌, ◌++◌, length, take, Ok, Option, Some, None, refl, sym, ap, subst, ◌∙◌, arith}
-use Rattle.std.specs.Prelude.{map, is_ok, is_some, nat_lt, ◌==◌, if◌then◌else◌}
-use Rattle.std.specs.List.{list_all}
-use Rattle.std.proofs.lemmas.Bool.{and_from, and_parts, false≢true, eqb-false}
-use Rattle.std.proofs.lemmas.List.{length-take-le, take_all}
-use Rattle.std.proofs.lemmas.List.Elements.{All-weaker}
-use Rattle.rex_syntax.specs.declared.service.Declarations.{Declarations}
-use Rattle.rex_syntax.specs.Service.{IsService}
-use Rattle.rex_syntax.specs.Check.{IsChecked}
-use Rattle.rex_state.specs.Value.{StateValue}
-use Rattle.rex_state.specs.Start.{start_of}
-use Rattle.rex_state.specs.Machine.{run}
-use Rattle.rex_state.specs.Sound.{IsSound}
-use Rattle.rex_state.proofs.Sounds.{run_keeps, start_keeps}
-use Rattle.rex_durable.specs.declared.records.Rec.{Rec as KeptRec}
-use Rattle.rex_durable.specs.Spelling.{HasSpelling, IsDue, record_bytes}
-use Rattle.rex_snapshot.specs.Spelling.{EntryFits, HasFewEvents, IsLimited}
+use Rattle.rex_node.proofs.Common.{◌≡◌, ℕ, zero, suc, ◌+◌, ◌<◌, ◌≤◌, inl, inr, Bool, true, false, List, [], ◌∷◌, ◌++◌, length, take, Ok, Option, Some, None, refl, sym, ap, subst, ◌∙◌, arith, map, is_ok, is_some, nat_lt, ◌==◌, if◌then◌else◌, list_all, and_from, and_parts, false≢true, eqb-false, length-take-le, take_all, All-weaker, Declarations, IsService, IsChecked, StateValue, start_of, run, IsSound, run_keeps, start_keeps, KeptRec, HasSpelling, IsDue, record_bytes, IsLimited, Answer, version_in, Rec, known, base, Checkpoint, Failure, down_node, append, begin, logged, say, Here, CallHere, Value, runs, service_of, spells, state_after, trace_of, values_fit, state_is, Refusal, Step, Does, EndsDown, armed_with, call_of, if_up, last_of, IsCheckpoint, message_in, standing_in, log_of, read_state, rec_of, ActingValue, NodeValue, IsResting, IsUp, StaysResting, failed_records, here_of, state_of, log_then, is_stated, log_then}
+use Rattle.std.proofs.Common.{◌≢◌}
+use Rattle.rex_snapshot.specs.Spelling.{EntryFits, HasFewEvents}
 use Rattle.rex_report.specs.declared.effect.Effect.TheVariants as effect
-use Rattle.rex_traits.specs.Chains.{Answer}
 use Rattle.rex_syntax.specs.declared.version.Version.{Version}
-use Rattle.rex_snapshot.specs.Allowed.{version_in}
-use Rattle.rex_cluster.specs.Records.{Rec, known, base}
-use Rattle.rex_cluster.specs.Records.Rec.{Checkpoint}
-use Rattle.rex_cluster.specs.Node.{Failure, down_node}
-use Rattle.rex_cluster.specs.Calls.{append, begin, checkpoint, logged, say}
-use Rattle.rex_cluster.specs.Lanes.{Here, CallHere}
-use Rattle.rex_cluster.specs.Values.{Value, runs, service_of, spells, state_after, trace_of, values_fit}
+use Rattle.rex_cluster.specs.Calls.{checkpoint}
 use Rattle.rex_cluster.proofs.Limits.{values_limited}
-use Rattle.rex_cluster.proofs.Replies.{state_is}
-use Rattle.rex_node.specs.declared.refusal.Refusal.{Refusal}
 use Rattle.rex_node.specs.declared.refusal.Refusal.TheVariants as why
-use Rattle.rex_node.specs.declared.step.Step.{Step}
-use Rattle.rex_node.specs.Calls.{Does, EndsDown, armed_with, call_of, if_up, last_of, refusal_of_checkpoint}
-use Rattle.rex_node.specs.Checkpointing.{FallsSaving, IsCheckpoint, Saves, fallen_with, rebased, replayed_state, replayed_with}
-use Rattle.rex_log.specs.Messages.{message_in}
-use Rattle.rex_log.specs.Log.{standing_in, log_of, read_state, rec_of}
-use Rattle.rex_node.specs.Parts.{ActingValue, NodeValue, IsResting, IsUp, StaysResting, failed_records, here_of, state_of}
-use Rattle.rex_log.proofs.Pasts.{log_then}
-use Rattle.rex_node.specs.Stated.{is_stated}
+use Rattle.rex_node.specs.Calls.{refusal_of_checkpoint}
+use Rattle.rex_node.specs.Checkpointing.{FallsSaving, Saves, fallen_with, rebased, replayed_state, replayed_with}
 use Rattle.rex_node.proofs.Appended.{IsLogged, beside_of, call_at, logged_of, up_of}
 use Rattle.rex_node.proofs.GoingLemmas.{stated_one, fell_append}
 use Rattle.rex_node.proofs.Executing.{executes}
-use Rattle.rex_log.proofs.Pasts.{log_then}
 use Rattle.rex_node.proofs.Fronts.{front_runs}
 
 -- ---- the state that was replayed

@@ -1,41 +1,11 @@
 -- A node that writes down its last checkpoint again does as the model's.
-use Rattle.std.proofs.Common.{◌≡◌, ℕ, suc, ◌+◌, ◌<◌, ◌≤◌, inl, inr, Bool, true, false, List, [], ◌∷◌, ◌++◌, length, take, Ok, Option, Some, None, refl, sym, ap, subst, ◌∙◌, arith}
-use Rattle.std.specs.Prelude.{map, is_ok, if◌then◌else◌}
-use Rattle.std.proofs.lemmas.Bool.{false≢true}
-use Rattle.rex_syntax.specs.declared.service.Declarations.{Declarations}
-use Rattle.rex_syntax.specs.Service.{IsService}
-use Rattle.rex_syntax.specs.Check.{IsChecked}
-use Rattle.rex_state.specs.Value.{StateValue}
-use Rattle.rex_state.specs.Sound.{IsSound}
-use Rattle.rex_state.proofs.Sounds.{run_keeps, start_keeps}
-use Rattle.rex_durable.specs.declared.records.Rec.{Rec as KeptRec}
-use Rattle.rex_durable.specs.Spelling.{HasSpelling, IsDue, record_bytes}
-use Rattle.rex_snapshot.specs.Spelling.{IsLimited}
-use Rattle.rex_report.specs.declared.effect.Effect.{Effect}
+use Rattle.rex_node.proofs.Common.{◌≡◌, ℕ, suc, ◌+◌, ◌<◌, ◌≤◌, inl, inr, Bool, true, false, List, [], ◌∷◌, ◌++◌, length, take, Ok, Option, Some, None, refl, sym, ap, subst, ◌∙◌, arith, map, is_ok, if◌then◌else◌, false≢true, Declarations, IsService, IsChecked, StateValue, IsSound, run_keeps, start_keeps, KeptRec, HasSpelling, IsDue, record_bytes, IsLimited, Effect, Answer, Two, version_in, Rec, known, base, has_old_base, Checkpoint, Failure, down_node, append, begin, logged, say, Here, CallHere, Value, service_of, state_after, trace_of, state_is, Refusal, Step, Does, EndsDown, armed_with, call_of, last_of, refusal_of_migrate, IsCheckpoint, message_in, standing_in, log_of, read_state, rec_of, Falls, NodeValue, fallen, IsResting, IsUp, StaysResting, failed_records, here_of, log_then, is_stated, log_then}
 use Rattle.rex_report.specs.declared.effect.Effect.TheVariants as effect
-use Rattle.rex_traits.specs.Chains.{Answer}
-use Rattle.rex_syntax.specs.declared.version.Version.TheVariants.{Two}
-use Rattle.rex_snapshot.specs.Allowed.{version_in}
-use Rattle.rex_cluster.specs.Records.{Rec, known, base, has_old_base}
-use Rattle.rex_cluster.specs.Records.Rec.{Checkpoint}
-use Rattle.rex_cluster.specs.Node.{Failure, down_node}
-use Rattle.rex_cluster.specs.Calls.{append, begin, logged, migrate, say}
-use Rattle.rex_cluster.specs.Lanes.{Here, CallHere}
-use Rattle.rex_cluster.specs.Values.{Value, service_of, state_after, trace_of}
-use Rattle.rex_cluster.proofs.Replies.{state_is}
-use Rattle.rex_node.specs.declared.refusal.Refusal.{Refusal}
+use Rattle.rex_cluster.specs.Calls.{migrate}
 use Rattle.rex_node.specs.declared.refusal.Refusal.TheVariants as why
-use Rattle.rex_node.specs.declared.step.Step.{Step}
-use Rattle.rex_node.specs.Calls.{Does, EndsDown, armed_with, call_of, last_of, refusal_of_migrate}
-use Rattle.rex_node.specs.Checkpointing.{IsCheckpoint, Migrates}
-use Rattle.rex_log.specs.Messages.{message_in}
-use Rattle.rex_log.specs.Log.{standing_in, log_of, read_state, rec_of}
-use Rattle.rex_node.specs.Parts.{Falls, NodeValue, fallen, IsResting, IsUp, StaysResting, failed_records, here_of}
-use Rattle.rex_log.proofs.Pasts.{log_then}
-use Rattle.rex_node.specs.Stated.{is_stated}
+use Rattle.rex_node.specs.Checkpointing.{Migrates}
 use Rattle.rex_node.proofs.Appended.{IsLogged, beside_of, call_at, logged_of, up_of}
 use Rattle.rex_node.proofs.GoingLemmas.{stated_one, fell_append}
-use Rattle.rex_log.proofs.Pasts.{log_then}
 use Rattle.rex_node.proofs.OldBase.{old_based}
 use Rattle.rex_node.proofs.Saved.{front_limited, refused_none}
 

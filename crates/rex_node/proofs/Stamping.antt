@@ -1,18 +1,11 @@
 -- What is known of an active node's clients numbers their replies as the values do.
-use Rattle.std.proofs.Common.{◌≡◌, ℕ, zero, suc, ◌+◌, ◌<◌, ◌≤◌, max, Bool, true, false, cond, List, [], ◌∷◌, ◌++◌, length, take, drop, Option, Some, None, refl, sym, ap, subst, ◌∙◌, arith}
-use Rattle.std.specs.Prelude.{ℤ, slice_index_or, unwrap_or}
-use Rattle.std.proofs.lemmas.Bool.{lt-ltb}
-use Rattle.std.proofs.lemmas.List.{length-take-le, take-append-drop}
+use Rattle.rex_node.proofs.Common.{◌≡◌, ℕ, zero, suc, ◌+◌, ◌<◌, ◌≤◌, Bool, true, false, cond, List, [], ◌∷◌, ◌++◌, length, take, drop, Option, Some, None, refl, sym, ap, subst, ◌∙◌, arith, ℤ, slice_index_or, unwrap_or, lt-ltb, length-take-le, entry_at, replies_to, AnswersValue, answers_at, noting, Value, events_of, last_reply, length_push, NumbersReplies, last_held}
+use Rattle.std.proofs.Common.{max}
+use Rattle.std.proofs.lemmas.List.{take-append-drop}
 use Rattle.rex_state.specs.declared.lane.Entry.{Entry}
-use Rattle.rex_state.specs.Machine.{entry_at}
-use Rattle.rex_gate.specs.Numbers.{next_number, replies_to, stamp_of_state}
-use Rattle.rex_gate.specs.Noted.{AnswersValue, answers_at, noting, stamp_of}
+use Rattle.rex_gate.specs.Numbers.{next_number, stamp_of_state}
+use Rattle.rex_gate.specs.Noted.{stamp_of}
 use Rattle.rex_gate.proofs.Stamps.{noted_number, numbered_long, state_long, state_stamp}
-use Rattle.rex_cluster.specs.Values.{Value, events_of}
-use Rattle.rex_cluster.specs.Reading.{last_reply}
-use Rattle.rex_cluster.proofs.Lists.{length_push}
-use Rattle.rex_node.specs.Parts.{NumbersReplies}
-use Rattle.rex_node.specs.Telling.{last_held}
 
 -- ---- the last reply among values
 

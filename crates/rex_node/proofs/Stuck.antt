@@ -1,22 +1,7 @@
 -- What a call comes to where memory was short after appends.
-use Rattle.std.proofs.Common.{◌≡◌, ℕ, zero, suc, ◌<◌, Bool, true, false, cond, inl, inr, List, [], ◌++◌, length, Ok, Option, Some, None, refl, sym, ap, subst, ◌∙◌, arith, append_assoc, length-append}
+use Rattle.rex_node.proofs.Common.{◌≡◌, ℕ, zero, suc, ◌<◌, Bool, true, false, cond, inl, inr, List, [], ◌++◌, length, Ok, Option, Some, None, refl, sym, ap, subst, ◌∙◌, arith, append_assoc, length-append, Declarations, StateValue, Answer, chained, Rec, Proposal, base, Service, Lead, Role, Failure, After, Follower, Call, append, choose, lead, turn, settle, Value, CallHere, Draft, log_of, NodeValue, RunsShort, Stands, StopsShort, armed_with, BreaksOff, IsStuck, LeadsOn, LosesFirst, later, so_far}
 use Rattle.std.proofs.lemmas.List.{append-nil}
-use Rattle.rex_syntax.specs.declared.service.Declarations.{Declarations}
-use Rattle.rex_state.specs.Value.{StateValue}
-use Rattle.rex_traits.specs.Chains.{Answer}
-use Rattle.rex_traits.proofs.Chained.{chained}
-use Rattle.rex_cluster.specs.Records.{Rec, Proposal, base}
-use Rattle.rex_cluster.specs.Node.{Service, Lead, Role, Failure}
-use Rattle.rex_cluster.specs.Node.Failure.{After}
-use Rattle.rex_cluster.specs.Node.Role.{Follower, Leads}
-use Rattle.rex_cluster.specs.Calls.{Call, append, choose, lead, turn, settle}
-use Rattle.rex_cluster.specs.Values.{Value}
-use Rattle.rex_cluster.specs.Lanes.{CallHere}
-use Rattle.rex_node.specs.declared.step.Draft.{Draft}
-use Rattle.rex_log.specs.Log.{log_of}
-use Rattle.rex_node.specs.Parts.{NodeValue, RunsShort, Stands}
-use Rattle.rex_node.specs.Calls.{StopsShort, armed_with}
-use Rattle.rex_node.specs.Going.{BreaksOff, IsStuck, Leads as LeadsOn, LosesFirst, later, so_far}
+use Rattle.rex_cluster.specs.Node.Role.{Leads}
 use Rattle.rex_node.proofs.GoingLemmas.{both, later_count, leads_same, stated_both}
 
 -- ---- what is left of a call appends nothing where its first append fails and loses its record

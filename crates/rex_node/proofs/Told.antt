@@ -1,28 +1,8 @@
 -- Calls that tell no state.
-use Rattle.std.proofs.Common.{◌≡◌, ℕ, List, [], ◌∷◌, Result, Ok, Err, Option, None, inl, inr, sym, subst}
-use Rattle.std.specs.Prelude.{map, IfOk, OnOk}
-use Rattle.std.specs.declared.alloc.AllocError.{AllocError}
-use Rattle.std.proofs.lemmas.List.Elements.{All-cons, All-nil}
-use Rattle.rex_syntax.specs.declared.service.Declarations.{Declarations}
-use Rattle.rex_traits.specs.Chains.{Answer}
+use Rattle.rex_node.proofs.Common.{◌≡◌, ℕ, List, [], ◌∷◌, Result, Ok, Err, Option, None, inl, inr, sym, subst, map, IfOk, OnOk, AllocError, All-cons, All-nil, Declarations, Answer, Content, Failure, begin, Value, CallHere, content_in, message_in, Going, On, Down, Refusal, Draft, Step, NodeValue, here_of, Does, armed_with, Ends, later, so_far, AreTold, IsTold}
 use Rattle.rex_msg.specs.declared.message.Message.{Message}
-use Rattle.rex_msg.specs.declared.message.Content.{Content}
 use Rattle.rex_msg.specs.declared.message.Content.TheVariants as sent
-use Rattle.rex_cluster.specs.Node.{Failure}
-use Rattle.rex_cluster.specs.Calls.{begin}
 use Rattle.rex_cluster.specs.Telling.{TellsNoState, TellNoState}
-use Rattle.rex_cluster.specs.Values.{Value}
-use Rattle.rex_cluster.specs.Lanes.{CallHere}
-use Rattle.rex_log.specs.Messages.{content_in, message_in}
-use Rattle.rex_node.specs.declared.going.Going.{Going}
-use Rattle.rex_node.specs.declared.going.Going.TheVariants.{On, Down}
-use Rattle.rex_node.specs.declared.refusal.Refusal.{Refusal}
-use Rattle.rex_node.specs.declared.step.Draft.{Draft}
-use Rattle.rex_node.specs.declared.step.Step.{Step}
-use Rattle.rex_node.specs.Parts.{NodeValue, here_of}
-use Rattle.rex_node.specs.Calls.{Does, armed_with}
-use Rattle.rex_node.specs.Going.{Ends, later, so_far}
-use Rattle.rex_node.specs.Telling.{AreTold, IsTold}
 use Rattle.rex_node.proofs.Ending.{no_messages}
 
 module _ (service : Declarations) (past : List Value) where

@@ -1,19 +1,6 @@
 -- Rounds of going on follow one another.
-use Rattle.std.proofs.Common.{◌≡◌, ℕ, ◌-◌, ◌^◌, ◌<◌, true, List, length, ◌⊎◌, inl, inr, refl, sym, ap, subst, ◌∙◌, arith}
-use Rattle.std.specs.Prelude.{is_some}
-use Rattle.rex_syntax.specs.declared.service.Declarations.{Declarations}
-use Rattle.rex_traits.specs.Chains.{Answer}
-use Rattle.rex_cluster.specs.Calls.{settle}
-use Rattle.rex_cluster.specs.Values.{service_of, Value}
-use Rattle.rex_cluster.specs.Lanes.{CallHere}
-use Rattle.rex_node.specs.declared.going.Going.{Going}
-use Rattle.rex_node.specs.declared.going.Going.TheVariants.{On, Down}
+use Rattle.rex_node.proofs.Common.{◌≡◌, ℕ, ◌-◌, ◌^◌, ◌<◌, true, List, length, ◌⊎◌, inl, inr, refl, sym, ap, subst, ◌∙◌, arith, is_some, Declarations, Answer, settle, service_of, Value, CallHere, Going, On, Down, Again, Done, Draft, NodeValue, IsKept, IsSame, Stands, Comes, Ends, Fell, IsStuck, Leads, MayGoOn, RunsOn, so_far, GoesRound, IsFree}
 use Rattle.rex_node.specs.declared.going.Round.{Round}
-use Rattle.rex_node.specs.declared.going.Round.TheVariants.{Again, Done}
-use Rattle.rex_node.specs.declared.step.Draft.{Draft}
-use Rattle.rex_node.specs.Parts.{NodeValue, IsKept, IsSame, Stands}
-use Rattle.rex_node.specs.Going.{Comes, Ends, Fell, IsStuck, Leads, MayGoOn, RunsOn, so_far}
-use Rattle.rex_node.specs.Leading.{GoesRound, IsFree}
 use Rattle.rex_node.proofs.Adopting.{same_then}
 use Rattle.rex_node.proofs.GoingLemmas.{leads_same, leads_then, leads_fell}
 use Rattle.rex_node.proofs.Grows.{rest_runs}

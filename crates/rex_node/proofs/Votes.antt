@@ -1,46 +1,19 @@
 -- A node says that it accepted the proposal of a node that leads.
-use Rattle.std.proofs.Common.{◌≡◌, ℕ, ◌+◌, Bool, true, false, cond, not, eqb, List, [], ◌∷◌, ◌++◌, length, Option, Some, None, refl, sym, ap, subst, ◌∙◌, arith, eqb-true, length-append}
-use Rattle.std.specs.Prelude.{map, is_some, option_map, unwrap_or, IfSome, if◌then◌else◌}
-use Rattle.std.specs.List.{All}
-use Rattle.std.proofs.lemmas.Option.{same_Some}
-use Rattle.std.proofs.lemmas.List.Elements.{All-head, All-tail}
-use Rattle.rex_ballot.specs.declared.proposal.Proposal.{Proposal as Kept}
-use Rattle.rex_ballot.specs.Proposals.{proposal_for}
-use Rattle.rex_paxos.specs.declared.answers.Vote.{Vote}
+use Rattle.rex_node.proofs.Common.{◌≡◌, ℕ, ◌+◌, Bool, true, false, cond, not, eqb, List, [], ◌∷◌, ◌++◌, length, Option, Some, None, refl, sym, ap, subst, ◌∙◌, arith, length-append, map, is_some, option_map, unwrap_or, IfSome, if◌then◌else◌, All, same_Some, All-head, All-tail, Kept, proposal_for, Vote, Why, AcceptorValue, IsOneOf, AreCounted, is_counted, ProposerValue, acceptance_refusal, acceptance_vote, voted, counted_push, Declarations, StateValue, Answer, Effect, Lead, Service, Leading, IsNodeOf, is_in, is_majority, Call, led, on_own_vote, on_voted, say, settle, Value, service_of, CallHere, acceptance_vote_on, told_of, message_in, On, Draft, proposal_in, NodeValue, ActingValue, HasGoneOn, HasOpen, IsActing, IsKept, IsResting, IsProposer, IsUp, Proposes, here_of, lead_of, open_of, role_of, armed_with, Ends, so_far, LeadFits, RoleFits}
+use Rattle.std.proofs.Common.{eqb-true}
 use Rattle.rex_paxos.specs.declared.answers.Vote.TheVariants as vote
-use Rattle.rex_paxos.specs.declared.answers.Why.{Why}
 use Rattle.rex_paxos.specs.declared.answers.Why.TheVariants as why
-use Rattle.rex_paxos.specs.Acceptor.{AcceptorValue}
 use Rattle.rex_paxos.specs.Counting as counting
 use Rattle.rex_paxos.specs.declared.answers.Count.TheVariants as count
-use Rattle.rex_paxos.specs.Counting.{IsOneOf, AreCounted, is_counted}
-use Rattle.rex_paxos.specs.Proposer.{ProposerValue, acceptance_refusal, acceptance_vote, acceptance_counted, is_open, voted, with_acceptance}
-use Rattle.rex_paxos.proofs.Counted.{counted_push}
-use Rattle.rex_syntax.specs.declared.service.Declarations.{Declarations}
-use Rattle.rex_state.specs.Value.{StateValue}
-use Rattle.rex_traits.specs.Chains.{Answer}
-use Rattle.rex_report.specs.declared.effect.Effect.{Effect}
+use Rattle.rex_paxos.specs.Proposer.{acceptance_counted, is_open, with_acceptance}
 use Rattle.rex_report.specs.declared.effect.Effect.TheVariants as effect
-use Rattle.rex_cluster.specs.Node.{Lead, Service}
-use Rattle.rex_cluster.specs.Node.Role.{Leads as Leading}
-use Rattle.rex_cluster.specs.Quorum.{IsNode as IsNodeOf, is_in, is_majority}
-use Rattle.rex_cluster.specs.Calls.{Call, count_vote, led, on_own_vote, on_voted, say, settle}
+use Rattle.rex_cluster.specs.Calls.{count_vote}
 use Rattle.rex_cluster.specs.Calls as calls
-use Rattle.rex_cluster.specs.Values.{Value, service_of}
-use Rattle.rex_cluster.specs.Lanes.{CallHere}
-use Rattle.rex_node.specs.Electing.{acceptance_vote_on, accepting_from, told_of}
-use Rattle.rex_log.specs.Messages.{message_in}
-use Rattle.rex_node.specs.declared.going.Going.TheVariants.{On}
-use Rattle.rex_node.specs.declared.step.Draft.{Draft}
-use Rattle.rex_log.specs.Log.{proposal_in}
-use Rattle.rex_node.specs.Parts.{NodeValue, ActingValue, HasGoneOn, HasOpen, IsActing, IsKept, IsResting, IsProposer, IsUp, Proposes, here_of, lead_of, open_of, role_of}
-use Rattle.rex_node.specs.Calls.{armed_with}
-use Rattle.rex_node.specs.Going.{Ends, so_far}
+use Rattle.rex_node.specs.Electing.{accepting_from}
 use Rattle.rex_node.proofs.Appended.{beside_of, logged_of, up_of}
 use Rattle.rex_node.proofs.GoingLemmas.{leads_same}
 use Rattle.rex_node.proofs.Opening.{logged_as}
 use Rattle.rex_node.proofs.Written.{call_is}
-use Rattle.rex_cluster.specs.Ranges.{LeadFits, RoleFits}
 use Rattle.rex_node.proofs.Bridges as bridges
 
 -- ---- what is made of an acceptance

@@ -1,31 +1,8 @@
 -- What a call comes to where a record was appended, or its append failed.
-use Rattle.std.proofs.Common.{◌≡◌, ℕ, Bool, true, false, cond, inl, length, arith, List, [], ◌∷◌, ◌++◌, Result, Ok, Err, Option, None, sym, ap, subst, ◌∙◌}
-use Rattle.std.specs.Prelude.{map, OnErr}
-use Rattle.rex_syntax.specs.declared.service.Declarations.{Declarations}
-use Rattle.rex_state.specs.Value.{StateValue}
-use Rattle.rex_traits.specs.Chains.{Answer}
-use Rattle.rex_durable.specs.declared.records.Rec.{Rec as KeptRec}
-use Rattle.rex_durable.specs.Spelling.{HasSpelling, IsDue, record_bytes}
-use Rattle.rex_report.specs.declared.effect.Effect.{Effect}
+use Rattle.rex_node.proofs.Common.{◌≡◌, ℕ, Bool, true, false, cond, inl, length, arith, List, [], ◌∷◌, ◌++◌, Result, Ok, Err, Option, None, sym, ap, subst, ◌∙◌, map, OnErr, Declarations, StateValue, Answer, KeptRec, HasSpelling, IsDue, record_bytes, Effect, Rec, base, Failure, Message, Role, Work, down_node, append, logged, Value, CallHere, length_push, Going, Down, Draft, message_in, log_of, rec_of, standing_in, NodeValue, IsUp, Keeps, Falls, fallen, failed_records, here_of, armed_with, Appends, BreaksOff, Leads, LosesFirst, Comes, so_far, log_then, is_stated}
 use Rattle.rex_report.specs.declared.effect.Effect.TheVariants as effect
-use Rattle.rex_cluster.specs.Records.{Rec, base}
-use Rattle.rex_cluster.specs.Node.{Failure, Message, Role, Work, down_node}
-use Rattle.rex_cluster.specs.Calls.{append, logged}
-use Rattle.rex_cluster.specs.Values.{Value}
-use Rattle.rex_cluster.specs.Lanes.{CallHere}
-use Rattle.rex_cluster.proofs.Lists.{length_push}
-use Rattle.rex_node.specs.declared.going.Going.{Going}
-use Rattle.rex_node.specs.declared.going.Going.TheVariants.{Down}
-use Rattle.rex_node.specs.declared.step.Draft.{Draft}
-use Rattle.rex_log.specs.Messages.{message_in}
-use Rattle.rex_log.specs.Log.{log_of, rec_of, standing_in}
-use Rattle.rex_node.specs.Parts.{NodeValue, IsUp, Keeps, Falls, fallen, failed_records, here_of}
-use Rattle.rex_node.specs.Calls.{armed_with}
-use Rattle.rex_node.specs.Going.{Appends, BreaksOff, Leads, LosesFirst, Comes, so_far}
 use Rattle.rex_node.proofs.GoingLemmas.{leads_append, fell_append}
 use Rattle.rex_node.proofs.Stuck.{stops_here}
-use Rattle.rex_log.proofs.Pasts.{log_then}
-use Rattle.rex_node.specs.Stated.{is_stated}
 
 pub on_err : {T E P : Type 0} (r : Result T E) → P → OnErr r P
 on_err (Ok x) p = tt

@@ -1,19 +1,6 @@
 -- What a call of a node comes to.
-use Rattle.std.proofs.Common.{◌≡◌, ℕ, Bool, true, false, List, [], map, Option, inl, inr, refl, sym, ap, subst, ◌∙◌, le_refl, append-nil}
-use Rattle.rex_syntax.specs.declared.service.Declarations.{Declarations}
-use Rattle.rex_report.specs.declared.effect.Effect.TheVariants.{IsDown}
-use Rattle.rex_cluster.specs.Node.{Failure}
-use Rattle.rex_cluster.specs.Calls.{begin, say}
-use Rattle.rex_cluster.specs.Invariant.{Begins}
-use Rattle.rex_cluster.specs.Values.{Value}
-use Rattle.rex_cluster.specs.Lanes.{Here, CallHere}
-use Rattle.rex_node.specs.declared.step.Step.{Step}
-use Rattle.rex_log.specs.Messages.{message_in}
-use Rattle.rex_node.specs.Parts.{StaysNode}
-use Rattle.rex_node.specs.Calls.{Does, EndsDown}
-use Rattle.rex_steps.specs.Serving.{Serves, ServesIf}
-use Rattle.rex_world.specs.Members.{Member, IsKeeping, IsMember, StaysMember, faults_of, here_at, records_of}
-use Rattle.rex_world.specs.Calls.{HasCome, served}
+use Rattle.rex_world.proofs.Common.{◌≡◌, ℕ, Bool, true, false, List, [], map, Option, inl, inr, refl, sym, ap, subst, ◌∙◌, le_refl, append-nil, Declarations, IsDown, Failure, begin, say, Begins, Value, Here, CallHere, Step, message_in, StaysNode, Does, EndsDown, Serves, Member, IsKeeping, IsMember, StaysMember, faults_of, here_at, records_of, HasCome, served}
+use Rattle.rex_steps.specs.Serving.{ServesIf}
 use Rattle.rex_world.proofs.Failing.{follows, is_done, stays_broken, stays_grown, stays_keeping, stays_within}
 use Rattle.rex_world.proofs.Unseen.{Goes}
 

@@ -1,16 +1,6 @@
 -- What is agreed on by nodes.
-use Rattle.std.proofs.Common.{◌≡◌, ℕ, zero, suc, ◌-◌, ◌<◌, ◌≤◌, Bool, true, false, cond, eqb, List, [], ◌∷◌, length, refl, ap, subst, ◌∙◌, arith}
-use Rattle.std.specs.Prelude.{nat_lt, if◌then◌else◌}
-use Rattle.rex_syntax.specs.declared.service.Declarations.{Declarations}
-use Rattle.rex_cluster.specs.Records.{known}
-use Rattle.rex_cluster.specs.Values.{Value}
-use Rattle.rex_cluster.specs.Lanes.{Here}
-use Rattle.rex_cluster.specs.Agreed.{agreed, longer_of, longest}
+use Rattle.rex_world.proofs.Common.{◌≡◌, ℕ, zero, suc, ◌-◌, ◌<◌, ◌≤◌, Bool, true, false, cond, eqb, List, [], ◌∷◌, length, refl, ap, subst, ◌∙◌, arith, nat_lt, if◌then◌else◌, Declarations, known, Value, Here, agreed, longer_of, longest, node_at, put, World, IsRunning, world_of}
 use Rattle.rex_cluster.specs.Quorum.{IsNode}
-use Rattle.rex_cluster.specs.World.{node_at, put}
-use Rattle.rex_world.specs.declared.world.World.{World}
-use Rattle.rex_world.specs.Kept.{IsRunning}
-use Rattle.rex_world.specs.World.{world_of}
 use Rattle.rex_world.proofs.Placed.{later_at}
 
 -- one with the same records changes nothing

@@ -1,22 +1,10 @@
 -- A client that reads a variable at a node.
-use Rattle.std.proofs.Common.{◌≡◌, ℕ, zero, suc, ◌≤◌, ◌<◌, List, [], ◌∷◌, ◌++◌, length, get_or, refl, sym, ◌∙◌, ap, arith, length-set}
-use Rattle.std.specs.Prelude.{slice_index_or, slice_set}
-use Rattle.std.specs.Global.{Vec}
-use Rattle.std.proofs.Math.Seq.{drop-length}
+use Rattle.rex_world.proofs.Common.{◌≡◌, ℕ, zero, suc, ◌≤◌, ◌<◌, List, [], ◌∷◌, ◌++◌, length, get_or, refl, sym, ◌∙◌, ap, arith, length-set, slice_index_or, slice_set, Vec, drop-length, Declarations, Effect, ModelWorld, node_at, sent_from, Told, World, Member, here_at, heres, messages_of, world_of, IsRunning, ComesTo, step_in}
 use Rattle.std.proofs.lemmas.List.{append-nil}
-use Rattle.rex_syntax.specs.declared.service.Declarations.{Declarations}
 use Rattle.rex_reads.specs.declared.seen.Read.{Read}
 use Rattle.rex_reads.specs.Reads.{seen_after}
-use Rattle.rex_report.specs.declared.effect.Effect.{Effect}
 use Rattle.rex_schedule.specs.declared.scenario.ScheduleLine.TheVariants.{ReadVariable}
 use Rattle.rex_cluster.specs.Reading.{read_at, read_effect}
-use Rattle.rex_cluster.specs.World.{World as ModelWorld, node_at, sent_from}
-use Rattle.rex_world.specs.declared.told.Told.{Told}
-use Rattle.rex_world.specs.declared.world.World.{World}
-use Rattle.rex_world.specs.Members.{Member, here_at, heres}
-use Rattle.rex_world.specs.World.{messages_of, world_of}
-use Rattle.rex_world.specs.Kept.{IsRunning}
-use Rattle.rex_world.specs.Calls.{ComesTo, step_in}
 
 -- a number that is there, whatever else there could be
 number_there : (xs : List ℕ) (i d e : ℕ) → i < length xs → get_or xs i d ≡ get_or xs i e

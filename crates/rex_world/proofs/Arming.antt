@@ -1,28 +1,10 @@
 -- A line that arms the keeper of a node.
-use Rattle.std.proofs.Common.{◌≡◌, ℕ, ◌+◌, ◌-◌, ◌≤◌, ◌<◌, ◌^◌, Bool, true, false, List, length, Some, refl, sym, ◌∙◌, ap, subst, arith}
-use Rattle.std.specs.Prelude.{if◌then◌else◌, slice_index_or, slice_set}
-use Rattle.std.specs.Global.{Vec}
+use Rattle.rex_world.proofs.Common.{◌≡◌, ℕ, ◌+◌, ◌-◌, ◌≤◌, ◌<◌, ◌^◌, Bool, true, false, List, length, Some, refl, sym, ◌∙◌, ap, subst, arith, if◌then◌else◌, slice_index_or, slice_set, Vec, most_nodes, Declarations, Request, Fate, KeeperValue, IsNode, After, Value, Here, ModelWorld, node_at, put, row, agreed, IsKept, NodeValue, IsKeptNode, World, Member, AreMembers, IsKeeping, IsMember, faults_of, here_at, heres, records_of, nodes_of, world_of, IsRunning}
 use Rattle.std.proofs.lemmas.List.{append-nil}
-use Rattle.rex_ballot.specs.Limits.{most_nodes}
-use Rattle.rex_syntax.specs.declared.service.Declarations.{Declarations}
-use Rattle.rex_syntax.specs.declared.request.Request.{Request}
-use Rattle.rex_traits.specs.declared.mem_keeper.Fate.{Fate}
 use Rattle.rex_traits.specs.declared.mem_keeper.Fate.TheVariants as fate
-use Rattle.rex_traits.specs.Keeping.{KeeperValue, armed_to}
+use Rattle.rex_traits.specs.Keeping.{armed_to}
 use Rattle.rex_schedule.specs.declared.scenario.ScheduleLine.TheVariants.{KeepFail}
-use Rattle.rex_schedule.specs.Fits.{IsNode}
-use Rattle.rex_cluster.specs.Node.Failure.{After}
-use Rattle.rex_cluster.specs.Values.{Value}
-use Rattle.rex_cluster.specs.Lanes.{Here}
-use Rattle.rex_cluster.specs.World.{World as ModelWorld, node_at, put, row}
-use Rattle.rex_cluster.specs.Agreed.{agreed}
-use Rattle.rex_safety.specs.Kept.{IsKept}
 use Rattle.rex_safety.proofs.Keeps.{row_kept}
-use Rattle.rex_node.specs.Parts.{NodeValue, IsNode as IsKeptNode}
-use Rattle.rex_world.specs.declared.world.World.{World}
-use Rattle.rex_world.specs.Members.{Member, AreMembers, IsKeeping, IsMember, faults_of, here_at, heres, records_of}
-use Rattle.rex_world.specs.World.{nodes_of, world_of}
-use Rattle.rex_world.specs.Kept.{IsRunning}
 use Rattle.rex_world.proofs.Agreeing.{same_longest}
 use Rattle.rex_world.proofs.Coming.{same_world}
 use Rattle.rex_world.proofs.Placed.{at_old, many_are, new_members, new_within, now_put, old_member, old_within, within_more}

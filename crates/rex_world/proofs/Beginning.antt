@@ -1,28 +1,11 @@
 -- A world before the first line.
-use Rattle.std.proofs.Common.{◌≡◌, ℕ, zero, suc, ◌+◌, ◌≤◌, Bool, true, false, List, [], ◌∷◌, ◌++◌, length, take, replicate, refl, sym, ◌∙◌, ap, subst, arith, add-zero, length-append}
-use Rattle.std.specs.Prelude.{◌&&◌}
+use Rattle.rex_world.proofs.Common.{◌≡◌, ℕ, zero, suc, ◌+◌, ◌≤◌, Bool, true, false, List, [], ◌∷◌, ◌++◌, length, take, refl, sym, ◌∙◌, ap, subst, arith, add-zero, length-append, ◌&&◌, replicate_next, All, list_all, All-nil, most_nodes, Declarations, IsService, IsChecked, RequestFits, Message, Value, Here, ModelWorld, beginning, agreed, longer_of, longest, IsKept, World, Member, AreMembers, AreWithin, IsMember, faults_of, here_at, heres, IsSpelled, TellsRightly, messages_of, world_of, IsRunning}
+use Rattle.std.proofs.Common.{replicate}
 use Rattle.std.proofs.lemmas.Bool.{leb-true}
-use Rattle.std.proofs.lemmas.Grind.{replicate_next}
-use Rattle.std.specs.List.{All, list_all}
-use Rattle.std.proofs.lemmas.List.Elements.{All-nil}
-use Rattle.rex_ballot.specs.Limits.{most_nodes}
-use Rattle.rex_syntax.specs.declared.service.Declarations.{Declarations}
-use Rattle.rex_syntax.specs.Service.{IsService}
-use Rattle.rex_syntax.specs.Check.{IsChecked}
 use Rattle.rex_schedule.specs.Counts.{is_node_count}
-use Rattle.rex_schedule.specs.Fits.{RequestFits}
-use Rattle.rex_cluster.specs.Node.{Message, new_node}
-use Rattle.rex_cluster.specs.Values.{Value}
-use Rattle.rex_cluster.specs.Lanes.{Here}
-use Rattle.rex_cluster.specs.World.{World as ModelWorld, beginning}
+use Rattle.rex_cluster.specs.Node.{new_node}
 use Rattle.rex_cluster.specs.Reading.{nothing_seen}
-use Rattle.rex_cluster.specs.Agreed.{agreed, longer_of, longest}
-use Rattle.rex_safety.specs.Kept.{IsKept}
 use Rattle.rex_safety.proofs.Keeps.{beginning_kept}
-use Rattle.rex_world.specs.declared.world.World.{World}
-use Rattle.rex_world.specs.Members.{Member, AreMembers, AreWithin, IsMember, faults_of, here_at, heres}
-use Rattle.rex_world.specs.World.{IsSpelled, TellsRightly, messages_of, world_of}
-use Rattle.rex_world.specs.Kept.{IsRunning}
 use Rattle.rex_world.proofs.Endings.{heres_both}
 
 -- the nodes so far, before the first line

@@ -1,30 +1,14 @@
 -- Bytes that are read beside a list of values, and beside a longer one.
-use Rattle.std.proofs.Common.{◌≡◌, ℕ, zero, suc, ◌≤◌, ◌⊎◌, inl, inr, true, false, List, [], ◌∷◌, ◌++◌, length, Result, Ok, Err, Some, refl, sym, ap, subst, ◌∙◌, arith, append_assoc, length-append}
-use Rattle.std.specs.List.{All, list_all}
-use Rattle.std.proofs.lemmas.Bool.{and_parts}
-use Rattle.std.proofs.lemmas.List.Elements.{All-nil, All-cons, All-head, All-tail}
-use Rattle.rex_syntax.specs.declared.service.Declarations.{Declarations}
-use Rattle.rex_state.specs.Start.{start_of}
-use Rattle.rex_state.specs.Machine.{run}
-use Rattle.rex_state.specs.Value.{StateValue}
+use Rattle.rex_world.proofs.Common.{◌≡◌, ℕ, zero, suc, ◌≤◌, ◌⊎◌, inl, inr, true, false, List, [], ◌∷◌, ◌++◌, length, Result, Ok, Err, Some, refl, sym, ap, subst, ◌∙◌, arith, append_assoc, length-append, All, list_all, and_parts, All-nil, All-cons, All-head, All-tail, Declarations, start_of, run, StateValue, KeptRec, Said, Says, Rec, Begins, Value, spells, trace_of, first, log_behind, log_of, log_with, message_in, first_length, first_longer, IsTold, TellsIn, TellsRightly, message_of, messages_of, read_message}
 use Rattle.rex_delta.specs.Reading.{delta_at, delta_in}
-use Rattle.rex_durable.specs.declared.records.Rec.{Rec as KeptRec}
 use Rattle.rex_durable.specs.declared.records.Rec.TheVariants as rec
 use Rattle.rex_snapshot.specs.Reading.{state_in}
-use Rattle.rex_msg.specs.declared.message.Message.{Message as Said}
-use Rattle.rex_msg.specs.declared.message.Content.{Content as Says}
 use Rattle.rex_msg.specs.declared.message.Content.TheVariants as says
-use Rattle.rex_cluster.specs.Records.{Rec, HasTransferred}
-use Rattle.rex_cluster.specs.Invariant.{Begins}
-use Rattle.rex_cluster.specs.Values.{Value, spells, trace_of}
-use Rattle.rex_log.specs.Log.{first, log_behind, log_of, log_with, read_state}
-use Rattle.rex_log.specs.Messages.{message_in}
+use Rattle.rex_cluster.specs.Records.{HasTransferred}
+use Rattle.rex_log.specs.Log.{read_state}
 use Rattle.rex_log.specs.Messages as told
 use Rattle.rex_log.specs.Laws.{AreInPast}
-use Rattle.rex_log.proofs.Firsts.{first_length, first_longer}
 use Rattle.rex_log.proofs.Pasts.{longer, message_longer}
-use Rattle.rex_node.specs.Telling.{IsTold}
-use Rattle.rex_world.specs.World.{TellsIn, TellsRightly, message_of, messages_of, read_message}
 
 -- ---- fronts of lists
 

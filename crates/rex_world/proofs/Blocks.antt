@@ -1,36 +1,9 @@
 -- A block of events that a node is handed.
-use Rattle.std.proofs.Common.{◌≡◌, ℕ, ◌-◌, ◌≤◌, Bool, true, false, cond, eqb, eq-eqb, List, [], ◌∷◌, length, Result, Ok, Err, Option, Some, None, OnErr, OnOk, refl, sym, ap, subst, ◌∙◌}
-use Rattle.std.specs.Prelude.{slice_index_or, slice_set}
-use Rattle.std.specs.Global.{Vec}
-use Rattle.std.specs.List.{All}
-use Rattle.std.proofs.lemmas.List.Elements.{All-nil, All-head, All-tail}
-use Rattle.rex_ballot.specs.Limits.{most_nodes}
-use Rattle.rex_syntax.specs.declared.request.Request.{Request}
-use Rattle.rex_syntax.specs.declared.service.Declarations.{Declarations}
-use Rattle.rex_syntax.specs.Service.{IsService}
-use Rattle.rex_syntax.specs.Check.{IsChecked}
-use Rattle.rex_event.specs.declared.event.Event.{Event}
-use Rattle.rex_schedule.specs.Fits.{IsNode, RequestFits}
-use Rattle.rex_traits.specs.Keeping.{KeeperValue}
-use Rattle.rex_cluster.specs.Node.{Failure, is_active}
-use Rattle.rex_cluster.specs.Calls.{begin}
-use Rattle.rex_cluster.specs.Lanes.{Here}
-use Rattle.rex_cluster.specs.World.{World as ModelWorld, node_at, put}
-use Rattle.rex_cluster.specs.Takes.{BeginsInRange, after_doings, take_event}
-use Rattle.rex_cluster.specs.Agreed.{agreed}
-use Rattle.rex_cluster.specs.Values.{Value}
-use Rattle.rex_safety.specs.Kept.{IsKept}
-use Rattle.rex_safety.proofs.Nodes.{node_put, put_length}
-use Rattle.rex_safety.proofs.Takes.{take_kept}
-use Rattle.rex_node.specs.declared.refusal.Refusal.{Refusal}
+use Rattle.rex_world.proofs.Common.{◌≡◌, ℕ, ◌-◌, ◌≤◌, Bool, true, false, cond, eqb, eq-eqb, List, [], ◌∷◌, length, Result, Ok, Err, Option, Some, None, OnErr, OnOk, refl, sym, ap, subst, ◌∙◌, slice_index_or, slice_set, Vec, All, All-nil, All-head, All-tail, most_nodes, Request, Declarations, IsService, IsChecked, Event, IsNode, RequestFits, KeeperValue, Failure, is_active, begin, Here, ModelWorld, node_at, put, BeginsInRange, take_event, agreed, Value, IsKept, node_put, take_kept, Refusal, NodeValue, here_of, LeadsTo, Refuses, refusal_active, World, Member, StaysMember, armed_of, here_at, records_of, nodes_of, world_of, IsRunning}
+use Rattle.rex_cluster.specs.Takes.{after_doings}
+use Rattle.rex_safety.proofs.Nodes.{put_length}
 use Rattle.rex_node.specs.Blocks.{take_each}
-use Rattle.rex_node.specs.Parts.{NodeValue, here_of}
-use Rattle.rex_node.specs.Calls.{LeadsTo, Refuses, refusal_active}
-use Rattle.rex_world.specs.declared.world.World.{World}
 use Rattle.rex_world.specs.Taking.{IsHandedBlock, takes_at}
-use Rattle.rex_world.specs.Members.{Member, StaysMember, armed_of, here_at, records_of}
-use Rattle.rex_world.specs.World.{nodes_of, world_of}
-use Rattle.rex_world.specs.Kept.{IsRunning}
 use Rattle.rex_world.proofs.Coming.{put_same}
 use Rattle.rex_world.proofs.Given.{given_put, given_running, given_still, none_refused, take_agreed, take_is}
 use Rattle.rex_world.proofs.Placed.{at_old, many_here}

@@ -1,38 +1,9 @@
 -- What a call of a node does to a world.
-use Rattle.std.proofs.Common.{◌≡◌, ℕ, suc, ◌-◌, ◌≤◌, Bool, true, false, cond, List, [], ◌∷◌, ◌++◌, length, map, take, None, eqb, refl, sym, ◌∙◌, ap, subst, arith, length-append}
-use Rattle.std.specs.Prelude.{replicate, if◌then◌else◌}
-use Rattle.std.specs.Global.{Vec}
-use Rattle.std.specs.List.{All, list_all}
-use Rattle.std.proofs.Math.Seq.{drop-append_seam}
-use Rattle.std.proofs.lemmas.List.{append-nil, length-map, take-append-le}
-use Rattle.std.proofs.lemmas.List.Elements.{All-nil, All-cons, All-append, All-head, All-tail}
-use Rattle.rex_ballot.specs.Limits.{most_nodes}
-use Rattle.rex_syntax.specs.declared.service.Declarations.{Declarations}
-use Rattle.rex_syntax.specs.Service.{IsService}
-use Rattle.rex_syntax.specs.Check.{IsChecked}
-use Rattle.rex_schedule.specs.Fits.{RequestFits}
-use Rattle.rex_report.specs.declared.effect.Effect.{Effect}
-use Rattle.rex_report.specs.declared.effect.Effect.TheVariants.{IsDown, IsUp}
-use Rattle.rex_msg.specs.declared.message.Message.{Message as Said}
-use Rattle.rex_msg.specs.Spelling.{HasSpelling, spelling_of}
-use Rattle.rex_msg.proofs.MessageAgain.{message_read}
-use Rattle.rex_state.specs.Value.{StateValue}
-use Rattle.rex_cluster.specs.Node.{Message, Service}
-use Rattle.rex_cluster.specs.Calls.{begin, say, start}
-use Rattle.rex_cluster.specs.Values.{Value}
-use Rattle.rex_cluster.specs.Lanes.{Here, CallHere}
-use Rattle.rex_cluster.specs.World.{World as ModelWorld, Row, node_at, put, after, only, if_up, at_node, start_if, sent_from}
-use Rattle.rex_safety.specs.Kept.{IsKept}
-use Rattle.rex_cluster.specs.Reading.{released_to, seen_by_release, seen_by_releases, stamp_at}
-use Rattle.rex_node.specs.declared.step.Step.{Step}
-use Rattle.rex_log.specs.Messages.{message_in}
-use Rattle.rex_node.specs.Telling.{AreTold, IsTold}
-use Rattle.rex_world.specs.declared.told.Told.{Told}
-use Rattle.rex_world.specs.declared.world.World.{World}
-use Rattle.rex_world.specs.Members.{Member, AreKept, AreMembers, AreWithin, heres}
-use Rattle.rex_world.specs.World.{read_message, message_of, messages_of, IsSpelled, TellsIn, TellsRightly, world_of, nodes_of}
-use Rattle.rex_world.specs.Kept.{IsRunning, IsSame}
-use Rattle.rex_world.specs.Calls.{Did, HasCome, Sends, served, started}
+use Rattle.rex_world.proofs.Common.{◌≡◌, ℕ, suc, ◌-◌, ◌≤◌, Bool, true, false, cond, List, [], ◌∷◌, ◌++◌, length, map, take, None, eqb, refl, sym, ◌∙◌, ap, subst, arith, length-append, replicate, if◌then◌else◌, Vec, All, list_all, drop-append_seam, length-map, All-nil, All-cons, All-append, All-head, All-tail, most_nodes, Declarations, IsService, IsChecked, RequestFits, Effect, IsDown, Said, HasSpelling, spelling_of, message_read, StateValue, Message, Service, begin, say, start, Value, Here, CallHere, ModelWorld, Row, node_at, put, after, only, if_up, at_node, sent_from, IsKept, seen_by_release, seen_by_releases, stamp_at, Step, message_in, AreTold, IsTold, Told, World, Member, AreKept, AreMembers, AreWithin, heres, read_message, message_of, messages_of, IsSpelled, TellsIn, TellsRightly, world_of, nodes_of, IsRunning, IsSame, Did, HasCome, Sends, served, started}
+use Rattle.std.proofs.lemmas.List.{append-nil, take-append-le}
+use Rattle.rex_report.specs.declared.effect.Effect.TheVariants.{IsUp}
+use Rattle.rex_cluster.specs.World.{start_if}
+use Rattle.rex_cluster.specs.Reading.{released_to}
 use Rattle.rex_world.proofs.Sending.{sent_alike}
 use Rattle.rex_world.proofs.Shown.{releases_long}
 

@@ -1,31 +1,18 @@
 -- The end lines of nodes.
-use Rattle.std.proofs.Common.{◌≡◌, ℕ, suc, ◌+◌, ◌-◌, ◌<◌, ◌≤◌, true, List, [], ◌∷◌, ◌++◌, length, take, Option, Some, None, is_some, refl, sym, ◌∙◌, ap, subst, arith, append_assoc, add-zero, add-one, length-take}
-use Rattle.std.specs.Prelude.{slice_index_or, unwrap_or, if◌then◌else◌, ℤ, Result, OnOk}
-use Rattle.std.proofs.lemmas.Result.{on_ok_weaker}
-use Rattle.std.proofs.Math.Seq.{take-suc}
-use Rattle.rex_syntax.specs.declared.service.Declarations.{Declarations}
-use Rattle.rex_state.specs.Value.{StateValue}
-use Rattle.rex_state.specs.Start.{start_of}
-use Rattle.rex_state.specs.Machine.{run}
+use Rattle.rex_world.proofs.Common.{◌≡◌, ℕ, suc, ◌+◌, ◌-◌, ◌<◌, ◌≤◌, true, List, [], ◌∷◌, ◌++◌, length, take, Option, Some, None, is_some, refl, sym, ◌∙◌, ap, subst, arith, append_assoc, add-zero, add-one, slice_index_or, unwrap_or, if◌then◌else◌, on_ok_weaker, take-suc, Declarations, StateValue, start_of, run, Event, Up, promise, known, role_name, is_active, Value, trace_of, state_after, Here, KeeperValue, log_of, NodeValue, ActingValue, IsActing, here_of, role_of, work_of, Member, AreMembers, IsMember, here_at, heres, records_of, ends_text}
+use Rattle.std.proofs.Common.{length-take}
+use Rattle.std.specs.Prelude.{ℤ, Result, OnOk}
 use Rattle.rex_state.proofs.Run.{run-then}
-use Rattle.rex_event.specs.declared.event.Event.{Event}
 use Rattle.rex_report.specs.declared.ends.End.{End}
-use Rattle.rex_report.specs.declared.ends.End.TheVariants.{Up, Down}
+use Rattle.rex_report.specs.declared.ends.End.TheVariants.{Down}
 use Rattle.rex_report.specs.declared.ends.UpEnd.{UpEnd}
 use Rattle.rex_report.specs.Ends.{end_text}
-use Rattle.rex_cluster.specs.Records.{promise, known}
-use Rattle.rex_cluster.specs.Node.{role_name, is_active}
-use Rattle.rex_cluster.specs.Values.{Value, trace_of, state_after}
-use Rattle.rex_cluster.specs.Lanes.{Here}
-use Rattle.rex_traits.specs.Keeping.{KeeperValue}
-use Rattle.rex_log.specs.Log.{log_of}
-use Rattle.rex_node.specs.Parts.{NodeValue, ActingValue, IsNode, IsActing, here_of, role_of, work_of, shown_of, shown_with}
-use Rattle.rex_world.specs.Members.{Member, AreMembers, IsMember, here_at, heres, records_of}
+use Rattle.rex_node.specs.Parts.{IsNode, shown_of, shown_with}
 use Rattle.rex_node.specs.Parts.{count_of as known_count}
 use Rattle.rex_world.proofs.Knowing.{count_known}
 use Rattle.rex_world.proofs.Placed.{many_here, member_is}
 use Rattle.std.proofs.lemmas.List.{append-nil}
-use Rattle.rex_world.specs.Report.{count_of, end_of, ends_text, node_text, shown_state, up_end_of}
+use Rattle.rex_world.specs.Report.{count_of, end_of, node_text, shown_state, up_end_of}
 
 -- the state that events run to
 run_to : (service : Declarations) (es : List Event) {s : StateValue} → run service (start_of service) es ≡ Some s → state_after service es ≡ s

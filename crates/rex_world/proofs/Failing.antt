@@ -1,29 +1,16 @@
 -- What a call of a node comes to, whether its keeper is armed or not; and the keeper's records are still read.
-use Rattle.std.proofs.Common.{◌≡◌, ◌≤◌, ◌+◌, ℕ, Bool, true, false, List, [], ◌∷◌, ◌++◌, length, Ok, Err, Option, Some, None, inl, inr, refl, sym, ap, ◌∙◌, subst, arith, append-nil, append_assoc, length-append}
-use Rattle.std.specs.List.{list_all}
-use Rattle.std.specs.Prelude.{MatchResult, IsNone, IsSome}
-use Rattle.std.proofs.lemmas.Bool.{and_parts}
+use Rattle.rex_world.proofs.Common.{◌≡◌, ◌≤◌, ◌+◌, ℕ, Bool, true, false, List, [], ◌∷◌, ◌++◌, length, Ok, Err, Option, Some, None, inl, inr, refl, sym, ap, ◌∙◌, subst, arith, append-nil, append_assoc, length-append, list_all, IsSome, and_parts, Declarations, KeeperValue, Fate, Failure, After, begin, Here, CallHere, Step, NodeValue, here_of, Value, Begins, AreRead, Does, IsKeeping, armed_of, faults_of, here_at, records_of, IsDone}
+use Rattle.std.specs.Prelude.{MatchResult, IsNone}
 use Rattle.std.proofs.lemmas.List.Folds.{list_all-append}
-use Rattle.rex_syntax.specs.declared.service.Declarations.{Declarations}
 use Rattle.rex_traits.specs.declared.keeper.KeepFault.{KeepFault}
 use Rattle.rex_traits.specs.Chains.{Answer, AppendsInTurn}
-use Rattle.rex_traits.specs.Keeping.{KeeperValue, appended_as, with_record}
+use Rattle.rex_traits.specs.Keeping.{appended_as, with_record}
 use Rattle.rex_traits.specs.Obeying.{ObeysArming}
-use Rattle.rex_traits.specs.declared.mem_keeper.Fate.{Fate}
 use Rattle.rex_traits.specs.declared.mem_keeper.Fate.TheVariants.{Kept, Lost}
-use Rattle.rex_cluster.specs.Node.{Failure}
-use Rattle.rex_cluster.specs.Node.Failure.{After}
-use Rattle.rex_cluster.specs.Calls.{begin}
-use Rattle.rex_cluster.specs.Lanes.{Here, CallHere}
-use Rattle.rex_node.specs.declared.step.Step.{Step}
-use Rattle.rex_node.specs.Parts.{NodeValue, failed_records, here_of}
-use Rattle.rex_cluster.specs.Values.{Value}
-use Rattle.rex_cluster.specs.Invariant.{Begins}
-use Rattle.rex_log.specs.Log.{AreRead}
+use Rattle.rex_node.specs.Parts.{failed_records}
 use Rattle.rex_node.specs.Stated.{AreStated, is_stated}
-use Rattle.rex_node.specs.Calls.{Does, FailsAfter, GoesWell, call_of, failed_many}
-use Rattle.rex_world.specs.Members.{IsKeeping, armed_of, failing, faults_of, here_at, records_of}
-use Rattle.rex_steps.specs.Steps.{IsDone}
+use Rattle.rex_node.specs.Calls.{FailsAfter, GoesWell, call_of, failed_many}
+use Rattle.rex_world.specs.Members.{failing}
 use Rattle.rex_world.proofs.Unseen.{Goes, armed_as, unseen}
 
 abbrev pub follows : KeeperValue → List ℕ → Answer → KeeperValue → Type 0

@@ -1,35 +1,12 @@
 -- An event that a node is handed.
-use Rattle.std.proofs.Common.{◌≡◌, ℕ, ◌-◌, ◌≤◌, Bool, true, false, List, [], length, Result, Ok, Err, Option, Some, None, IfOk, OnErr, OnOk, refl, sym, ap, subst, ◌∙◌, append-nil}
-use Rattle.std.specs.Prelude.{slice_index_or, slice_set, if◌then◌else◌}
-use Rattle.std.specs.Global.{Vec}
-use Rattle.std.proofs.lemmas.List.Elements.{All-nil}
-use Rattle.rex_ballot.specs.Limits.{most_nodes}
-use Rattle.rex_syntax.specs.declared.service.Declarations.{Declarations}
-use Rattle.rex_event.specs.declared.event.Event.{Event}
+use Rattle.rex_world.proofs.Common.{◌≡◌, ℕ, ◌-◌, ◌≤◌, Bool, true, false, List, [], length, Result, Ok, Err, Option, Some, None, IfOk, OnErr, OnOk, refl, sym, ap, subst, ◌∙◌, append-nil, slice_index_or, slice_set, if◌then◌else◌, Vec, All-nil, most_nodes, Declarations, Event, IsNode, RequestFits, KeeperValue, Lead, Role, is_active, role_name, Follower, Leads, begin, Value, Here, active_only, ModelWorld, after, if_up, node_at, put, BeginsInRange, take_event, agreed, IsKept, take_kept, Refusal, NodeValue, here_of, LeadsTo, Refuses, refusal_active, World, Member, AreMembers, StaysMember, armed_of, here_at, records_of, nodes_of, world_of, IsRunning, IsSame}
 use Rattle.rex_record.specs.declared.turns.Turn.{Turn}
-use Rattle.rex_schedule.specs.Fits.{IsNode, RequestFits}
-use Rattle.rex_traits.specs.Keeping.{KeeperValue}
-use Rattle.rex_cluster.specs.Node.{Lead, Role, is_active, role_name}
-use Rattle.rex_cluster.specs.Node.Role.{Follower, Leads}
-use Rattle.rex_cluster.specs.Calls.{begin}
-use Rattle.rex_cluster.specs.Values.{Value}
-use Rattle.rex_cluster.specs.Lanes.{Here, active_only}
-use Rattle.rex_cluster.specs.World.{World as ModelWorld, after, if_up, node_at, put}
-use Rattle.rex_cluster.specs.Takes.{BeginsInRange, take, take_event, taken, taken_in}
-use Rattle.rex_cluster.specs.Agreed.{agreed}
-use Rattle.rex_safety.specs.Kept.{IsKept}
+use Rattle.rex_cluster.specs.Takes.{take, taken, taken_in}
 use Rattle.rex_safety.specs.Doings.{TakesAreKept}
-use Rattle.rex_safety.proofs.Takes.{take_kept}
-use Rattle.rex_node.specs.declared.refusal.Refusal.{Refusal}
 use Rattle.rex_node.specs.declared.refusal.Refusal.TheVariants as why
-use Rattle.rex_node.specs.Parts.{NodeValue, here_of}
 use Rattle.rex_node.specs.Calls as calls
-use Rattle.rex_node.specs.Calls.{LeadsTo, Refuses, refusal_active, if_active}
-use Rattle.rex_world.specs.declared.world.World.{World}
-use Rattle.rex_world.specs.Members.{Member, AreMembers, StaysMember, armed_of, here_at, records_of}
+use Rattle.rex_node.specs.Calls.{if_active}
 use Rattle.rex_world.specs.Taking.{IsHanded}
-use Rattle.rex_world.specs.World.{nodes_of, world_of}
-use Rattle.rex_world.specs.Kept.{IsRunning, IsSame}
 use Rattle.rex_world.proofs.Agreeing.{same_longest}
 use Rattle.rex_world.proofs.Coming.{same_world, put_same}
 use Rattle.rex_world.proofs.Placed.{all_stay, at_old, many_are, now_put}

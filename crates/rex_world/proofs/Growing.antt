@@ -1,37 +1,14 @@
 -- What is agreed on grows by what the records of a node say that it knows.
-use Rattle.std.proofs.Common.{◌≡◌, ℕ, zero, suc, ◌+◌, ◌≤◌, ◌<◌, ◌⊎◌, inl, inr, Bool, true, false, cond, eqb, List, [], ◌∷◌, ◌++◌, length, drop, Result, Ok, Err, refl, sym, ap, subst, ◌∙◌, arith, append-nil, length-append, le_refl}
-use Rattle.std.specs.Prelude.{◌==◌, if◌then◌else◌}
-use Rattle.std.specs.List.{All, list_all}
-use Rattle.std.proofs.lemmas.Bool.{and_parts, cases_lt, eqb-false, eqb-true}
+use Rattle.rex_world.proofs.Common.{◌≡◌, ℕ, zero, suc, ◌+◌, ◌≤◌, ◌<◌, ◌⊎◌, inl, inr, Bool, true, false, cond, eqb, List, [], ◌∷◌, ◌++◌, length, drop, Result, Ok, Err, refl, sym, ap, subst, ◌∙◌, arith, append-nil, length-append, le_refl, ◌==◌, if◌then◌else◌, All, list_all, and_parts, eqb-true, drop-append_seam, Declarations, StateValue, KeeperValue, KeptRec, record_in, Rec, known, Begins, Service, Value, runs, service_of, spells, trace_of, Here, agreed, node_at, put, IsKept, known_begins, next_fits, node_put, AreRead, first, log_behind, log_of, log_with, first_length, IsKeptNode, NodeValue, here_of, knows, World, learned, learned_in, Member, AreMembers, IsKeeping, IsMember, here_at, heres, records_at, records_of, TellsRightly, messages_of, nodes_of, world_of, IsRunning}
+use Rattle.std.proofs.lemmas.Bool.{cases_lt, eqb-false}
 use Rattle.std.proofs.lemmas.List.Sums.{fold-append}
-use Rattle.std.proofs.Math.Seq.{drop-append_seam}
-use Rattle.rex_syntax.specs.declared.service.Declarations.{Declarations}
-use Rattle.rex_state.specs.Value.{StateValue}
-use Rattle.rex_traits.specs.Keeping.{KeeperValue}
-use Rattle.rex_durable.specs.declared.records.Rec.{Rec as KeptRec}
 use Rattle.rex_durable.specs.declared.records.Rec.TheVariants as rec
-use Rattle.rex_durable.specs.Reading.{record_in}
-use Rattle.rex_cluster.specs.Records.{Rec, known}
-use Rattle.rex_cluster.specs.Invariant.{AreRecords, Begins}
-use Rattle.rex_cluster.specs.Node.{Service}
+use Rattle.rex_cluster.specs.Invariant.{AreRecords}
 use Rattle.rex_cluster.specs.Quorum.{IsNode}
-use Rattle.rex_cluster.specs.Values.{Value, runs, service_of, spells, trace_of}
-use Rattle.rex_cluster.specs.Lanes.{Here}
-use Rattle.rex_cluster.specs.Agreed.{agreed}
-use Rattle.rex_cluster.specs.World.{node_at, put}
-use Rattle.rex_safety.specs.Kept.{IsKept}
-use Rattle.rex_safety.proofs.Agreeing.{known_begins, longest_most}
+use Rattle.rex_safety.proofs.Agreeing.{longest_most}
 use Rattle.rex_safety.proofs.Held.{transfers_right}
-use Rattle.rex_safety.proofs.Nexts.{next_fits}
-use Rattle.rex_safety.proofs.Nodes.{node_put}
-use Rattle.rex_log.specs.Log.{AreRead, first, log_behind, log_of, log_with, rec_of, standing_in}
-use Rattle.rex_log.proofs.Firsts.{first_length}
-use Rattle.rex_node.specs.Parts.{IsNode as IsKeptNode, IsUp, NodeValue, here_of, knows, whole}
-use Rattle.rex_world.specs.declared.world.World.{World}
-use Rattle.rex_world.specs.Agreed.{learned, learned_in}
-use Rattle.rex_world.specs.Members.{Member, AreMembers, IsKeeping, IsMember, here_at, heres, records_at, records_of}
-use Rattle.rex_world.specs.World.{TellsRightly, messages_of, nodes_of, world_of}
-use Rattle.rex_world.specs.Kept.{IsRunning}
+use Rattle.rex_log.specs.Log.{rec_of, standing_in}
+use Rattle.rex_node.specs.Parts.{IsUp, whole}
 use Rattle.rex_world.proofs.Agreeing.{holds_of_longest}
 use Rattle.rex_world.proofs.Beside.{TakesFronts, begins_on, first_grown, log_grown, messages_grown, past_has, same_fronts, whole_front}
 use Rattle.rex_world.proofs.Learning.{known_due, learned_as, learned_of}

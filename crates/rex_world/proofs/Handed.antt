@@ -1,41 +1,14 @@
 -- What handing over a message does to a world.
-use Rattle.std.proofs.Common.{◌≡◌, ℕ, zero, suc, ◌-◌, ◌<◌, ◌≤◌, Bool, true, Option, Some, None, List, [], ◌∷◌, ◌++◌, length, take, drop, refl, sym, ◌∙◌, ap, subst, arith, append_assoc, length-set}
-use Rattle.std.specs.Prelude.{◌&&◌, slice_get, slice_set}
-use Rattle.std.specs.List.{All, list_all}
-use Rattle.std.proofs.lemmas.List.Elements.{All-get_or}
-use Rattle.std.proofs.Math.Seq.{drop-length}
+use Rattle.rex_world.proofs.Common.{◌≡◌, ℕ, zero, suc, ◌-◌, ◌<◌, ◌≤◌, Bool, true, Option, Some, None, List, [], ◌∷◌, ◌++◌, length, take, drop, refl, sym, ◌∙◌, ap, subst, arith, append_assoc, length-set, ◌&&◌, slice_get, slice_set, All, list_all, All-get_or, drop-length, and_parts, slice_get_within, get_or_from_slice_get, Declarations, Effect, Delivered, Said, spelling_of, message_read, IsNode, Message, kind_of, Value, service_of, Row, node_at, logs, at_node, only, deliver_found, sent_from, with_handed, roles, begin, receive, Begins, IsIn, known, MessageFits, RunsOn, message_in, content_in, IsTold, Told, World, disarmed, heres, TellsIn, TellsRightly, read_message, message_of, messages_of, world_of, nodes_of, IsRunning, ComesTo, step_in, IsSent}
 use Rattle.std.proofs.lemmas.List.{append-nil}
-use Rattle.std.proofs.lemmas.Bool.{and_parts}
-use Rattle.std.proofs.lemmas.Option.{slice_get_within, get_or_from_slice_get}
-use Rattle.rex_syntax.specs.declared.service.Declarations.{Declarations}
-use Rattle.rex_report.specs.declared.effect.Effect.{Effect}
-use Rattle.rex_report.specs.declared.effect.Effect.TheVariants.{Delivered, NoMessage}
-use Rattle.rex_msg.specs.declared.message.Message.{Message as Said}
-use Rattle.rex_msg.specs.Spelling.{spelling_of}
-use Rattle.rex_msg.proofs.MessageAgain.{message_read}
+use Rattle.rex_report.specs.declared.effect.Effect.TheVariants.{NoMessage}
 use Rattle.rex_net.specs.Net as net
-use Rattle.rex_schedule.specs.Fits.{IsNode}
 use Rattle.rex_schedule.specs.declared.scenario.ScheduleLine.TheVariants as line
-use Rattle.rex_cluster.specs.Node.{Message, kind_of}
-use Rattle.rex_cluster.specs.Values.{Value, service_of}
-use Rattle.rex_cluster.specs.World.{Row, node_at, logs, at_node, only, first_told, deliver_found, sent_from, message_at, with_handed}
-use Rattle.rex_safety.specs.Kept.{roles}
-use Rattle.rex_cluster.specs.Calls.{begin, receive}
-use Rattle.rex_cluster.specs.Invariant.{Begins, IsIn}
-use Rattle.rex_cluster.specs.Records.{known}
-use Rattle.rex_cluster.specs.Ranges.{MessageFits}
+use Rattle.rex_cluster.specs.World.{first_told, message_at}
 use Rattle.rex_cluster.proofs.Calls.{receive_good}
 use Rattle.rex_safety.proofs.Worlds.{nth_in}
-use Rattle.rex_node.specs.Going.{RunsOn}
-use Rattle.rex_log.specs.Messages.{message_in, content_in}
-use Rattle.rex_node.specs.Telling.{IsTold}
-use Rattle.rex_world.specs.declared.told.Told.{Told}
-use Rattle.rex_world.specs.declared.world.World.{World}
-use Rattle.rex_world.specs.Members.{disarmed, heres}
-use Rattle.rex_world.specs.World.{TellsIn, TellsRightly, read_message, message_of, messages_of, world_of, nodes_of}
-use Rattle.rex_world.specs.Kept.{IsRunning}
-use Rattle.rex_world.specs.Calls.{ComesTo, Comes, step_in}
-use Rattle.rex_world.specs.Finding.{IsSent, IsMarked}
+use Rattle.rex_world.specs.Calls.{Comes}
+use Rattle.rex_world.specs.Finding.{IsMarked}
 use Rattle.rex_world.proofs.Coming.{messages_many}
 use Rattle.rex_world.proofs.Stepping.{front_known, runs_after}
 

@@ -1,26 +1,12 @@
 -- The messages that wait are handed over, one after the other.
-use Rattle.std.proofs.Common.{◌≡◌, ℕ, zero, suc, ◌+◌, ◌-◌, ◌<◌, ◌≤◌, Bool, true, false, List, [], ◌∷◌, ◌++◌, length, map, take, drop, get_or, replicate, refl, sym, ◌∙◌, ap, subst, arith, append_assoc, add-zero, add-one, length-append}
-use Rattle.std.specs.Prelude.{slice_set, if◌then◌else◌}
-use Rattle.std.specs.List.{list_all}
-use Rattle.std.proofs.Math.Seq.{take-suc, drop-cons, drop-append_seam, drop-length, set-append_seam, get_or-append_seam, take-append_seam}
-use Rattle.std.proofs.lemmas.Grind.{replicate_next}
-use Rattle.std.proofs.lemmas.List.{append-nil, map-append, length-drop, length-replicate, length-take-le, take-append-drop}
+use Rattle.rex_world.proofs.Common.{◌≡◌, ℕ, zero, suc, ◌+◌, ◌-◌, ◌<◌, ◌≤◌, Bool, true, false, List, [], ◌∷◌, ◌++◌, length, map, take, drop, get_or, refl, sym, ◌∙◌, ap, subst, arith, append_assoc, add-zero, add-one, length-append, slice_set, if◌then◌else◌, list_all, take-suc, drop-cons, drop-append_seam, drop-length, replicate_next, map-append, length-drop, Request, Declarations, Effect, ScheduleLine, Message, Ask, Value, CallHere, ModelWorld, Row, node_at, if_up, with_handed, deliver_found, sent_from, Told, World, nodes_of, IsSame, Did}
+use Rattle.std.proofs.Common.{replicate}
+use Rattle.std.proofs.Math.Seq.{set-append_seam, get_or-append_seam, take-append_seam}
+use Rattle.std.proofs.lemmas.List.{append-nil, length-replicate, length-take-le, take-append-drop}
 use Rattle.std.proofs.lemmas.Option.{slice_get-get_or}
-use Rattle.rex_syntax.specs.declared.request.Request.{Request}
-use Rattle.rex_syntax.specs.declared.service.Declarations.{Declarations}
-use Rattle.rex_report.specs.declared.effect.Effect.{Effect}
-use Rattle.rex_schedule.specs.declared.scenario.ScheduleLine.{ScheduleLine}
 use Rattle.rex_schedule.specs.declared.scenario.ScheduleLine.TheVariants.{Deliver}
-use Rattle.rex_cluster.specs.Node.{Message}
-use Rattle.rex_cluster.specs.Node.Content.{Ask}
-use Rattle.rex_cluster.specs.Values.{Value}
-use Rattle.rex_cluster.specs.Lanes.{CallHere}
-use Rattle.rex_cluster.specs.World.{World as ModelWorld, Row, node_at, if_up, with_handed, deliver_found, step, steps, waiting_from, sent_from}
-use Rattle.rex_world.specs.declared.told.Told.{Told}
-use Rattle.rex_world.specs.declared.world.World.{World}
-use Rattle.rex_world.specs.World.{nodes_of}
-use Rattle.rex_world.specs.Kept.{IsSame}
-use Rattle.rex_world.specs.Calls.{Did, DidSteps}
+use Rattle.rex_cluster.specs.World.{step, steps, waiting_from}
+use Rattle.rex_world.specs.Calls.{DidSteps}
 use Rattle.rex_world.specs.Handing.{HandsOver, is_some_there, step_at}
 use Rattle.rex_world.proofs.Sending.{sent_both}
 

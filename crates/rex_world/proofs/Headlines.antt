@@ -1,22 +1,8 @@
 -- What holds of every run of a scenario.
-use Rattle.std.proofs.Common.{◌≡◌, inl, inr, ℕ, zero, suc, ◌≤◌, true, List, [], ◌∷◌, ◌++◌, Option, Some, None, is_some, length, ◌^◌, refl, sym, ap, subst, arith, length-append}
+use Rattle.rex_world.proofs.Common.{◌≡◌, inl, inr, ℕ, zero, suc, ◌≤◌, true, List, [], ◌∷◌, ◌++◌, Option, Some, None, is_some, length, ◌^◌, refl, sym, ap, subst, arith, length-append, All, list_all, and_parts, All-nil, All-cons, All-head, All-tail, most_nodes, Request, Declarations, IsService, IsChecked, StateValue, start_of, run, ScheduleLine, RequestFits, LineFits, Value, spells, runs, trace_of, values_fit, agreed, IsIn}
 use Rattle.std.specs.Prelude.{take, map}
-use Rattle.std.specs.List.{All, list_all}
-use Rattle.std.proofs.lemmas.Bool.{and_parts}
-use Rattle.std.proofs.lemmas.List.Elements.{All-nil, All-cons, All-head, All-tail}
-use Rattle.rex_ballot.specs.Limits.{most_nodes}
-use Rattle.rex_syntax.specs.declared.request.Request.{Request}
-use Rattle.rex_syntax.specs.declared.service.Declarations.{Declarations}
-use Rattle.rex_syntax.specs.Service.{IsService}
-use Rattle.rex_syntax.specs.Check.{IsChecked}
 use Rattle.rex_syntax.specs.Typed.{ServiceIsTyped, RequestIsTyped}
-use Rattle.rex_state.specs.Value.{StateValue}
-use Rattle.rex_state.specs.Start.{start_of}
-use Rattle.rex_state.specs.Machine.{run}
-use Rattle.rex_schedule.specs.declared.scenario.ScheduleLine.{ScheduleLine}
-use Rattle.rex_schedule.specs.Fits.{RequestFits, LineFits}
-use Rattle.rex_cluster.specs.Values.{Value, spells, runs, trace_of, values_fit}
-use Rattle.rex_cluster.specs.Agreed.{world_after, agreed}
+use Rattle.rex_cluster.specs.Agreed.{world_after}
 use Rattle.rex_safety.proofs.Agreeing.{agreed_fits, is_one_list}
 use Rattle.rex_safety.proofs.Steps.{reached_ok}
 use Rattle.rex_safety.proofs.Caused.{agreed_cuts, agreed_least}
@@ -32,7 +18,6 @@ use Rattle.rex_state.specs.Counts.{counts_of}
 use Rattle.rex_state.proofs.Counts.{runs_count_on}
 use Rattle.rex_state.proofs.Sounds.{start_keeps}
 use Rattle.rex_cluster.specs.Values.{delta_of}
-use Rattle.rex_cluster.specs.Invariant.{IsIn}
 use Rattle.rex_order.specs.Edges.{joined, HasEdge, AllRight}
 use Rattle.rex_order.specs.Laws.{AllowExtensions}
 use Rattle.rex_order.proofs.Extensions.{cuts_run_alike}

@@ -1,13 +1,6 @@
 -- How many values a node knows.
-use Rattle.std.proofs.Common.{◌≡◌, ◌+◌, true, List, length, sym, ◌∙◌, ap, length-append}
-use Rattle.rex_syntax.specs.declared.service.Declarations.{Declarations}
-use Rattle.rex_traits.specs.Keeping.{KeeperValue}
-use Rattle.rex_cluster.specs.Records.{known}
-use Rattle.rex_cluster.specs.Values.{Value}
-use Rattle.rex_log.specs.Log.{first}
-use Rattle.rex_log.proofs.Firsts.{first_length}
-use Rattle.rex_node.specs.Parts.{NodeValue, IsNode, count_of, here_of, knows}
-use Rattle.rex_world.specs.Members.{records_of}
+use Rattle.rex_world.proofs.Common.{◌≡◌, ◌+◌, true, List, length, sym, ◌∙◌, ap, length-append, Declarations, KeeperValue, known, Value, first, first_length, NodeValue, count_of, here_of, knows, records_of}
+use Rattle.rex_node.specs.Parts.{IsNode}
 
 count_knows : (past : List Value) (x : NodeValue KeeperValue) → count_of x ≡ length (knows past x)
 count_knows past x = ap (λ n. n + length x.known) (sym (first_length x.offset past)) ∙ sym (length-append (first x.offset past) x.known)

@@ -1,22 +1,19 @@
 -- What the bytes of a record give to the agreed values.
-use Rattle.std.proofs.Common.{◌≡◌, ℕ, ◌+◌, ◌≤◌, ◌<◌, Bool, true, false, List, [], ◌∷◌, ◌++◌, length, take, drop, Ok, Err, refl, sym, ap, subst, ◌∙◌, arith, add-one, append-nil, take-append-drop, ◌⊎◌, inl, inr}
-use Rattle.std.specs.Prelude.{◌==◌, ◌&&◌, get_or, max, nat_lt, nat_le, if◌then◌else◌}
+use Rattle.rex_world.proofs.Common.{◌≡◌, ℕ, ◌+◌, ◌≤◌, ◌<◌, Bool, true, false, List, [], ◌∷◌, ◌++◌, length, take, drop, Ok, Err, refl, sym, ap, subst, ◌∙◌, arith, add-one, append-nil, take-append-drop, ◌⊎◌, inl, inr, ◌==◌, ◌&&◌, nat_lt, nat_le, if◌then◌else◌, eqb-true, length-drop, KeptRec, Value, learned, learned_in, drop-cons}
+use Rattle.std.specs.Prelude.{get_or, max}
 use Rattle.std.specs.Int.{Width, w8, w32, w64, byte_len, from_be_bytes}
-use Rattle.std.proofs.lemmas.Bool.{eqb-true, le-leb, ltb-false}
+use Rattle.std.proofs.lemmas.Bool.{le-leb, ltb-false}
 use Rattle.rex_wire.specs.Reading.{◌>>=◌, Left, Reading, past, all_left, number_at, allowed_at, bytes_at, value_at, is_length}
 use Rattle.rex_wire.specs.Ranges.{is_between}
-use Rattle.std.proofs.lemmas.List.{drop-drop, length-drop}
+use Rattle.std.proofs.lemmas.List.{drop-drop}
 use Rattle.rex_wire.proofs.Fields.{bind_ok, guard_ok, test_ok}
 use Rattle.rex_ballot.specs.Ballot.{is_ballot, is_instance}
-use Rattle.rex_durable.specs.declared.records.Rec.{Rec as KeptRec}
 use Rattle.rex_durable.specs.declared.records.Rec.TheVariants as rec
 use Rattle.rex_durable.specs.declared.records.Standing.{Standing}
 use Rattle.rex_durable.specs.Reading.{promised_at, accepted_at, known_at, checkpoint_at, dropped_at, transferred_at, content_at, record_at, record_in}
 use Rattle.rex_durable.proofs.Allowed.{next-true}
-use Rattle.rex_cluster.specs.Values.{Value}
-use Rattle.rex_world.specs.Agreed.{gives_next, instance_in, learned, learned_in, value_in}
+use Rattle.rex_world.specs.Agreed.{gives_next, instance_in, value_in}
 use Rattle.std.proofs.Math.ListN.{drop_of_length-le}
-use Rattle.std.proofs.Math.Seq.{drop-cons}
 
 -- ---- fields
 

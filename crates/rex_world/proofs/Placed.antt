@@ -1,15 +1,8 @@
 -- The node at a place of a world.
-use Rattle.std.proofs.Common.{◌≡◌, ℕ, zero, suc, ◌+◌, ◌-◌, ◌<◌, ◌≤◌, ◌≢◌, List, [], ◌∷◌, length, get_or, refl, sym, ◌∙◌, ap, subst, arith, length-set}
-use Rattle.std.specs.Prelude.{slice_index_or, slice_set}
+use Rattle.rex_world.proofs.Common.{◌≡◌, ℕ, zero, suc, ◌+◌, ◌-◌, ◌<◌, ◌≤◌, List, [], ◌∷◌, length, get_or, refl, sym, ◌∙◌, ap, subst, arith, length-set, slice_index_or, slice_set, Declarations, IsNode, Begins, Here, AreRead, log_of, Value, node_at, put, Member, AreKept, AreMembers, AreWithin, IsMember, StaysMember, faults_of, here_at, heres, records_at, records_of}
+use Rattle.std.proofs.Common.{◌≢◌}
 use Rattle.std.proofs.lemmas.Bool.{ne_eqb}
-use Rattle.rex_syntax.specs.declared.service.Declarations.{Declarations}
-use Rattle.rex_schedule.specs.Fits.{IsNode}
-use Rattle.rex_cluster.specs.Invariant.{Begins}
-use Rattle.rex_cluster.specs.Lanes.{Here}
-use Rattle.rex_log.specs.Log.{AreRead, log_of}
-use Rattle.rex_cluster.specs.Values.{Value}
-use Rattle.rex_cluster.specs.World.{node_at, put}
-use Rattle.rex_world.specs.Members.{Member, AreKept, AreMembers, AreWithin, IsMember, StaysMember, all_records, faults_of, here_at, heres, records_at, records_of}
+use Rattle.rex_world.specs.Members.{all_records}
 
 past_one : {i : ℕ} → suc (suc i) ≢ 1
 past_one e = absurd (omega arith)

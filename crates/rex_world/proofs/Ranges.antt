@@ -1,29 +1,17 @@
 -- Messages of a kept world have spellings.
-use Rattle.std.proofs.Common.{◌≡◌, ℕ, ◌+◌, ◌≤◌, List, [], ◌∷◌, ◌++◌, length, map, inl, inr, refl, sym, subst, arith}
-use Rattle.std.specs.List.{All}
-use Rattle.std.proofs.lemmas.List.Elements.{All-nil, All-cons, All-head, All-tail}
-use Rattle.rex_ballot.specs.Limits.{most_nodes}
+use Rattle.rex_world.proofs.Common.{◌≡◌, ℕ, ◌+◌, ◌≤◌, List, [], ◌∷◌, ◌++◌, length, map, inl, inr, refl, sym, subst, arith, All, All-nil, All-cons, All-head, All-tail, most_nodes, Said, Says, Declarations, Proposal, Content, Message, Promise, Accept, IsIn, MessageFits, Value, first, first_length, content_in, message_in, AreTold, IsTold}
 use Rattle.rex_ballot.specs.declared.proposal.Proposal.{Proposal as Kept}
 use Rattle.rex_ballot.specs.Ballot as ballot
 use Rattle.rex_ballot.specs.Proposals as proposals
-use Rattle.rex_msg.specs.declared.message.Message.{Message as Said}
-use Rattle.rex_msg.specs.declared.message.Content.{Content as Says}
 use Rattle.rex_msg.specs.declared.message.Content.TheVariants as says
 use Rattle.rex_msg.specs.Spelling as message
-use Rattle.rex_syntax.specs.declared.service.Declarations.{Declarations}
-use Rattle.rex_cluster.specs.Records.{Proposal}
 use Rattle.rex_cluster.specs.Quorum.{IsNode}
-use Rattle.rex_cluster.specs.Node.{Content, Message}
-use Rattle.rex_cluster.specs.Node.Content.{Promise, Accept, Chosen}
-use Rattle.rex_cluster.specs.Invariant.{IsIn}
-use Rattle.rex_cluster.specs.Ranges.{IsBallot, IsInstance, IsFirst, AreRising, ProposalFits, ContentFits, MessageFits}
-use Rattle.rex_cluster.specs.Values.{Value, greatest_value}
+use Rattle.rex_cluster.specs.Node.Content.{Chosen}
+use Rattle.rex_cluster.specs.Ranges.{IsBallot, IsInstance, IsFirst, AreRising, ProposalFits, ContentFits}
+use Rattle.rex_cluster.specs.Values.{greatest_value}
 use Rattle.rex_cluster.specs.World.{World}
 use Rattle.rex_safety.specs.Laws.{NumbersFit, ValuesAreShort}
-use Rattle.rex_log.specs.Log.{first, proposal_in}
-use Rattle.rex_log.proofs.Firsts.{first_length}
-use Rattle.rex_log.specs.Messages.{content_in, message_in}
-use Rattle.rex_node.specs.Telling.{AreTold, IsTold}
+use Rattle.rex_log.specs.Log.{proposal_in}
 
 -- ---- ranges
 

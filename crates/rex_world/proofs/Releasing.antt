@@ -1,16 +1,7 @@
 -- The releases of a schedule, line by line.
-use Rattle.std.proofs.Common.{◌≡◌, List, [], ◌∷◌, ◌++◌, sym, ap, subst, ◌∙◌, append-nil, append_assoc}
-use Rattle.std.specs.Prelude.{filter}
+use Rattle.rex_world.proofs.Common.{◌≡◌, List, [], ◌∷◌, ◌++◌, sym, ap, subst, ◌∙◌, append-nil, append_assoc, filter, Declarations, Effect, Scenario, ScheduleLine, row, World, IsOf, is_release, releases_from, nodes_of, world_of}
 use Rattle.std.proofs.lemmas.List.Elements.{filter-append}
-use Rattle.rex_syntax.specs.declared.service.Declarations.{Declarations}
-use Rattle.rex_report.specs.declared.effect.Effect.{Effect}
-use Rattle.rex_schedule.specs.declared.scenario.Scenario.{Scenario}
-use Rattle.rex_schedule.specs.declared.scenario.ScheduleLine.{ScheduleLine}
-use Rattle.rex_cluster.specs.World.{effects_of, row}
-use Rattle.rex_world.specs.declared.world.World.{World}
-use Rattle.rex_world.specs.Kept.{IsOf}
-use Rattle.rex_world.specs.Summaries.{is_release, releases_from}
-use Rattle.rex_world.specs.World.{nodes_of, world_of}
+use Rattle.rex_cluster.specs.World.{effects_of}
 use Rattle.rex_world.proofs.Runs.{next_of}
 
 -- what the next line reports

@@ -1,13 +1,6 @@
 -- The report of a schedule, line by line.
-use Rattle.std.proofs.Common.{◌≡◌, ℕ, zero, suc, ◌≤◌, ◌+◌, ◌<◌, List, [], ◌∷◌, ◌++◌, length, get_or, drop, drop-cons, refl, sym, ap, subst, ◌∙◌, arith}
-use Rattle.rex_syntax.specs.declared.service.Declarations.{Declarations}
-use Rattle.rex_schedule.specs.declared.scenario.Scenario.{Scenario}
-use Rattle.rex_schedule.specs.declared.scenario.ScheduleLine.{ScheduleLine}
-use Rattle.rex_cluster.specs.World.{World as ModelWorld, row}
-use Rattle.rex_world.specs.declared.world.World.{World}
-use Rattle.rex_world.specs.Kept.{IsOf, IsSame}
-use Rattle.rex_world.specs.Report.{effects_text, report_from}
-use Rattle.rex_world.specs.World.{nodes_of, world_of}
+use Rattle.rex_world.proofs.Common.{◌≡◌, ℕ, zero, suc, ◌≤◌, ◌+◌, ◌<◌, List, [], ◌∷◌, ◌++◌, length, get_or, drop, refl, sym, ap, subst, ◌∙◌, arith, Declarations, Scenario, ScheduleLine, ModelWorld, row, World, IsOf, IsSame, effects_text, report_from, nodes_of, world_of}
+use Rattle.std.proofs.Common.{drop-cons}
 
 -- the items from a place on
 pub drop_next : {X : Type 0} {xs same : List X} {i : ℕ} {d : X} → same ≡ xs → i < length same → d ≡ get_or same i d → drop i xs ≡ d ∷ drop (i + 1) xs

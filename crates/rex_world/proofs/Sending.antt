@@ -1,20 +1,8 @@
 -- Messages that are sent one after the other.
-use Rattle.std.proofs.Common.{◌≡◌, ℕ, suc, refl, ◌+◌, ◌<◌, Bool, false, List, [], ◌∷◌, ◌++◌, length, map, take, sym, ◌∙◌, ap, subst, arith, append_assoc, length-append, add-zero, add-one}
-use Rattle.std.specs.Prelude.{replicate, slice_index_or}
-use Rattle.std.proofs.Math.Seq.{take-suc}
-use Rattle.std.proofs.lemmas.List.{map-append, length-map, replicate-append-replicate}
-use Rattle.std.proofs.lemmas.List.Elements.{All-append}
-use Rattle.rex_report.specs.declared.effect.Effect.{Effect}
+use Rattle.rex_world.proofs.Common.{◌≡◌, ℕ, suc, refl, ◌+◌, ◌<◌, Bool, false, List, [], ◌∷◌, ◌++◌, length, map, take, sym, ◌∙◌, ap, subst, arith, append_assoc, length-append, add-zero, add-one, replicate, slice_index_or, take-suc, map-append, length-map, All-append, Effect, Said, HasSpelling, spelling_of, Message, kind_of, Value, sent_from, Says, content_in, message_in, Sends}
+use Rattle.std.proofs.lemmas.List.{replicate-append-replicate}
 use Rattle.rex_report.specs.declared.effect.Effect.TheVariants.{Sent}
-use Rattle.rex_msg.specs.declared.message.Message.{Message as Said}
-use Rattle.rex_msg.specs.Spelling.{HasSpelling, spelling_of}
-use Rattle.rex_cluster.specs.Node.{Message, kind_of}
-use Rattle.rex_cluster.specs.Values.{Value}
-use Rattle.rex_cluster.specs.World.{sent_from}
-use Rattle.rex_msg.specs.declared.message.Content.{Content as Says}
 use Rattle.rex_msg.specs.declared.message.Content.TheVariants as says
-use Rattle.rex_log.specs.Messages.{content_in, message_in}
-use Rattle.rex_world.specs.Calls.{Sends}
 
 -- what is told of messages is the same beside every past
 same_kind : (past : List Value) (c : Says) → kind_of (content_in past c) ≡ kind_of (content_in [] c)

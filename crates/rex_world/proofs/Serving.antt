@@ -1,44 +1,16 @@
 -- What the nodes of a running world may be asked, and what comes of it.
-use Rattle.std.proofs.Common.{◌≡◌, ℕ, ◌+◌, ◌-◌, ◌^◌, ◌<◌, ◌≤◌, ℤ, pos, inl, inr, Option, Some, None, Bool, true, false, List, [], ◌∷◌, length, refl, sym, ◌∙◌, ap, subst, arith, length-set, length-append}
-use Rattle.std.specs.Prelude.{slice_index_or, slice_set, replicate, if◌then◌else◌}
-use Rattle.std.specs.Global.{Vec}
-use Rattle.std.specs.List.{All}
-use Rattle.std.specs.Option.{option_copied}
-use Rattle.std.proofs.lemmas.List.Elements.{All-nil, All-cons}
-use Rattle.rex_ballot.specs.Limits.{most_nodes}
-use Rattle.rex_syntax.specs.declared.service.Declarations.{Declarations}
-use Rattle.rex_syntax.specs.declared.request.Request.{Request}
-use Rattle.rex_msg.specs.declared.message.Message.{Message as Said}
+use Rattle.rex_world.proofs.Common.{◌≡◌, ℕ, ◌+◌, ◌-◌, ◌^◌, ◌<◌, ◌≤◌, ℤ, inl, inr, Option, Some, None, Bool, true, false, List, [], ◌∷◌, length, refl, sym, ◌∙◌, ap, subst, arith, length-set, length-append, slice_index_or, slice_set, replicate, if◌then◌else◌, Vec, All, option_copied, All-nil, All-cons, most_nodes, Declarations, Request, Said, IsNode, RequestFits, StateValue, Effect, IsAmong, Failure, Service, IsIn, begin, receive, say, start, stop, Value, service_of, Here, CallHere, cut, submit_request, ModelWorld, after, at_node, deliver_found, if_up, node_at, with_handed, IsKept, step_kept, content_in, Step, AreLimits, counts_for, StaysNode, here_of, AreTold, IsTold, Serves, if_active, Told, World, IsSent, Member, AreKept, AreMembers, IsMember, StaysMember, disarmed, here_at, heres, records_at, records_of, nodes_of, world_of, IsRunning, AreReleased, ComesTo, HasCome, IsSettled, Starts, call_at, served, started}
+use Rattle.std.proofs.Common.{pos}
 use Rattle.rex_msg.specs.Spelling.{IsMessage}
-use Rattle.rex_schedule.specs.Fits.{IsNode, RequestFits}
 use Rattle.rex_schedule.specs.declared.scenario.ScheduleLine.TheVariants as line
-use Rattle.rex_state.specs.Value.{StateValue}
-use Rattle.rex_report.specs.declared.effect.Effect.{Effect}
 use Rattle.rex_report.specs.declared.effect.Effect.TheVariants as effect
-use Rattle.rex_cluster.specs.Releases.{IsAmong}
-use Rattle.rex_cluster.specs.Node.{Failure, Service}
-use Rattle.rex_cluster.specs.Invariant.{IsIn}
-use Rattle.rex_cluster.specs.Calls.{begin, receive, say, start, stop}
-use Rattle.rex_cluster.specs.Values.{Value, service_of}
-use Rattle.rex_cluster.specs.Lanes.{Here, CallHere, cut, submit_request, turned}
-use Rattle.rex_cluster.specs.World.{World as ModelWorld, after, at_node, deliver_found, if_up, node_at, with_handed}
-use Rattle.rex_safety.specs.Kept.{IsKept}
-use Rattle.rex_safety.proofs.Keeps.{kept_right, step_kept}
-use Rattle.rex_log.specs.Messages.{content_in}
-use Rattle.rex_node.specs.declared.step.Step.{Step}
-use Rattle.rex_node.specs.Calls.{AreLimits, counts_for, turn_at}
-use Rattle.rex_node.specs.Parts.{StaysNode, here_of}
-use Rattle.rex_node.specs.Telling.{AreTold, IsTold}
+use Rattle.rex_cluster.specs.Lanes.{turned}
+use Rattle.rex_safety.proofs.Keeps.{kept_right}
+use Rattle.rex_node.specs.Calls.{turn_at}
 use Rattle.rex_steps.specs.declared.serving.Call.{Call}
 use Rattle.rex_steps.specs.declared.serving.Call.TheVariants.{Elect, Receive, Submit, Lane, Cut, Replay, Ask, Checkpoint, DropKnown}
-use Rattle.rex_steps.specs.Serving.{MayReceive, MayServe, Serves, call_for, if_active}
-use Rattle.rex_world.specs.declared.told.Told.{Told}
-use Rattle.rex_world.specs.declared.world.World.{World}
-use Rattle.rex_world.specs.Finding.{IsSent}
-use Rattle.rex_world.specs.Members.{Member, AreKept, AreMembers, IsMember, StaysMember, disarmed, here_at, heres, records_at, records_of}
-use Rattle.rex_world.specs.World.{nodes_of, world_of}
-use Rattle.rex_world.specs.Kept.{IsRunning}
-use Rattle.rex_world.specs.Calls.{AreReleased, CanBeTold, CanCall, ComesTo, HasCome, IsSettled, Starts, call_at, served, started}
+use Rattle.rex_steps.specs.Serving.{MayReceive, MayServe, call_for}
+use Rattle.rex_world.specs.Calls.{CanBeTold, CanCall}
 use Rattle.rex_world.proofs.Acted.{by_number, by_own, has_come, serves_stays, unnamed}
 use Rattle.rex_world.proofs.Coming.{comes_after, served_row, started_row}
 use Rattle.rex_world.proofs.Failing.{follows}

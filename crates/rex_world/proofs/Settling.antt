@@ -1,18 +1,5 @@
 -- A node's step that was told, and of which what the node has come to know was agreed.
-use Rattle.std.proofs.Common.{◌≡◌, ℕ, length, drop, sym, ap, subst, ◌∙◌}
-use Rattle.std.specs.Global.{Vec}
-use Rattle.rex_syntax.specs.declared.service.Declarations.{Declarations}
-use Rattle.rex_schedule.specs.Fits.{IsNode}
-use Rattle.rex_cluster.specs.Invariant.{Begins}
-use Rattle.rex_cluster.specs.World.{Row, node_at, put}
-use Rattle.rex_node.specs.declared.step.Step.{Step}
-use Rattle.rex_world.specs.declared.told.Told.{Told}
-use Rattle.rex_world.specs.declared.world.World.{World}
-use Rattle.rex_world.specs.Agreed.{learned}
-use Rattle.rex_world.specs.Members.{Member, heres, records_at}
-use Rattle.rex_world.specs.World.{nodes_of}
-use Rattle.rex_world.specs.Kept.{IsRunning}
-use Rattle.rex_world.specs.Calls.{ComesTo, IsSettled}
+use Rattle.rex_world.proofs.Common.{◌≡◌, ℕ, length, drop, sym, ap, subst, ◌∙◌, Vec, Declarations, IsNode, Begins, Row, node_at, put, Step, Told, World, learned, Member, heres, records_at, nodes_of, IsRunning, ComesTo, IsSettled}
 use Rattle.rex_world.proofs.Coming.{CameTo, TellsStep}
 use Rattle.rex_world.proofs.Growing.{settled_running, settled_world}
 

@@ -1,29 +1,12 @@
 -- Replies are released by nodes that are up and active, and there stays a number for each client.
-use Rattle.std.proofs.Common.{◌≡◌, ℕ, zero, suc, ◌<◌, max, Bool, true, false, cond, List, [], ◌∷◌, length, get_or, Option, Some, None, refl, sym, subst, ◌∙◌, inl, inr, arith, length-set}
-use Rattle.std.specs.Prelude.{◌==◌, nat_lt, slice_get, slice_index_or}
-use Rattle.std.specs.List.{All}
+use Rattle.rex_world.proofs.Common.{◌≡◌, ℕ, zero, suc, ◌<◌, Bool, true, false, cond, List, [], ◌∷◌, length, get_or, Option, Some, None, refl, sym, subst, ◌∙◌, inl, inr, arith, length-set, ◌==◌, nat_lt, slice_get, slice_index_or, All, Request, Declarations, IsService, IsChecked, RequestFits, Effect, StateValue, Version, Rec, base, Content, Failure, Service, is_active, After, append, ask, begin, checkpoint, drop_known, elect, receive, replay, say, start, stop, Value, service_of, Here, CallHere, active_only, cut, submit_request, seen_by_release, seen_by_releases, IsAmong, AreReleased}
+use Rattle.std.proofs.Common.{max}
 use Rattle.std.proofs.lemmas.Bool.{false≢true}
-use Rattle.rex_syntax.specs.declared.request.Request.{Request}
-use Rattle.rex_syntax.specs.declared.service.Declarations.{Declarations}
-use Rattle.rex_syntax.specs.Service.{IsService}
-use Rattle.rex_syntax.specs.Check.{IsChecked}
-use Rattle.rex_schedule.specs.Fits.{RequestFits}
-use Rattle.rex_report.specs.declared.effect.Effect.{Effect}
 use Rattle.rex_report.specs.declared.effect.Effect.TheVariants as effect
-use Rattle.rex_state.specs.Value.{StateValue}
-use Rattle.rex_syntax.specs.declared.version.Version.{Version}
-use Rattle.rex_cluster.specs.Records.{Rec, base}
-use Rattle.rex_cluster.specs.Node.{Content, Failure, Service, is_active}
-use Rattle.rex_cluster.specs.Node.Failure.{After}
-use Rattle.rex_cluster.specs.Calls.{append, ask, begin, checkpoint, drop_known, elect, receive, replay, say, start, stop}
-use Rattle.rex_cluster.specs.Values.{Value, service_of}
-use Rattle.rex_cluster.specs.Lanes.{Here, CallHere, active_only, cut, lane_turn, submit_request}
-use Rattle.rex_cluster.specs.Reading.{seen_by_release, seen_by_releases}
-use Rattle.rex_cluster.specs.Releases.{IsAmong}
+use Rattle.rex_cluster.specs.Lanes.{lane_turn}
 use Rattle.rex_cluster.proofs.Saying.{quiet_none, start_quiet, elect_says, receive_says, replay_says, checkpoint_says, drop_says, stop_says}
 use Rattle.rex_cluster.proofs.Replies.{SaysHere, StandsIn, replies_stand, quietly, submit_says, turn_says, cut_tells}
 use Rattle.rex_safety.proofs.Staying.{elect_up, receive_up, submit_up, cut_up, active_up}
-use Rattle.rex_world.specs.Calls.{AreReleased}
 
 -- ---- numbers of clients
 

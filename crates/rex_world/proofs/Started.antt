@@ -1,24 +1,11 @@
 -- A node that is started does as the model's.
-use Rattle.std.proofs.Common.{◌≡◌, ℕ, true, false, List, [], ◌∷◌, ◌++◌, length, Result, Ok, Err, IfOk, refl, ap, sym, ◌∙◌, subst}
-use Rattle.rex_syntax.specs.declared.service.Declarations.{Declarations}
-use Rattle.rex_report.specs.declared.effect.Effect.{Effect}
+use Rattle.rex_world.proofs.Common.{◌≡◌, ℕ, true, false, List, [], ◌∷◌, ◌++◌, length, Result, Ok, Err, IfOk, refl, ap, sym, ◌∙◌, subst, Declarations, Effect, known, promise, begin, migrate, Here, Value, service_of, values_fit, Refusal, Step, Does, EndsDown, log_of, StaysNode, count_of, knows, HasForgotten, Starts, IsDone, Member, IsKeeping, IsMember, StaysMember, here_at, records_of}
 use Rattle.rex_report.specs.declared.effect.Effect.TheVariants as effect
-use Rattle.rex_cluster.specs.Records.{known, promise}
-use Rattle.rex_cluster.specs.Calls.{begin, migrate}
-use Rattle.rex_cluster.specs.Lanes.{Here}
-use Rattle.rex_cluster.specs.Values.{Value, service_of, values_fit}
 use Rattle.rex_cluster.proofs.Migrated.{migrated_sends}
-use Rattle.rex_node.specs.declared.refusal.Refusal.{Refusal}
-use Rattle.rex_node.specs.declared.step.Step.{Step}
-use Rattle.rex_node.specs.Calls.{Does, EndsDown}
 use Rattle.rex_node.proofs.Ending.{no_messages}
-use Rattle.rex_log.specs.Log.{log_of}
-use Rattle.rex_node.specs.Parts.{HasReached, IsNode, StaysNode, count_of, knows}
-use Rattle.rex_node.specs.Restarting.{HasForgotten, HasRightBase}
-use Rattle.rex_world.specs.Calls.{Starts}
+use Rattle.rex_node.specs.Parts.{HasReached, IsNode}
+use Rattle.rex_node.specs.Restarting.{HasRightBase}
 use Rattle.rex_world.specs.Starting.{CameBack}
-use Rattle.rex_steps.specs.Steps.{IsDone}
-use Rattle.rex_world.specs.Members.{Member, IsKeeping, IsMember, StaysMember, here_at, records_of}
 use Rattle.rex_world.proofs.Acted.{does_stays}
 use Rattle.rex_world.proofs.Failing.{follows, is_done}
 use Rattle.rex_world.proofs.Knowing.{count_known}

@@ -1,35 +1,14 @@
 -- What a step of the model comes to, from a world that runs.
-use Rattle.std.proofs.Common.{◌≡◌, ℕ, ◌≤◌, true, cond, List, length, Result, Ok, Err, OnOk, eq-eqb, refl, sym, ◌∙◌, ap, subst}
+use Rattle.rex_world.proofs.Common.{◌≡◌, ℕ, ◌≤◌, true, cond, List, length, Result, Ok, Err, OnOk, eq-eqb, refl, sym, ◌∙◌, ap, subst, Declarations, ScheduleLine, IsNode, LineFits, StateValue, known, offset, Service, begin, Value, values_fit, service_of, known_begins, first, first_longer, HasForgotten, CallHere, ModelWorld, node_at, logs, put, after, Begins, roles, IsKept, node_put, next_fits, step_kept, RunsOn, World, disarmed, world_of, nodes_of, IsRunning, Starts, step_in}
 use Rattle.std.specs.declared.alloc.AllocError.{AllocError}
-use Rattle.rex_syntax.specs.declared.service.Declarations.{Declarations}
-use Rattle.rex_schedule.specs.declared.scenario.ScheduleLine.{ScheduleLine}
-use Rattle.rex_schedule.specs.Fits.{IsNode, LineFits}
-use Rattle.rex_state.specs.Value.{StateValue}
-use Rattle.rex_cluster.specs.Records.{known, offset}
-use Rattle.rex_cluster.specs.Node.{Service}
 use Rattle.rex_cluster.specs.Calls as calls
-use Rattle.rex_cluster.specs.Calls.{begin}
-use Rattle.rex_cluster.specs.Values.{Value, values_fit, service_of}
-use Rattle.rex_safety.proofs.Agreeing.{base_is_right, known_begins}
+use Rattle.rex_safety.proofs.Agreeing.{base_is_right}
 use Rattle.rex_cluster.proofs.Lists.{offset_known}
-use Rattle.rex_log.specs.Log.{first}
-use Rattle.rex_log.proofs.Firsts.{first_longer, first_take}
-use Rattle.rex_node.specs.Restarting.{HasForgotten}
-use Rattle.rex_cluster.specs.Lanes.{CallHere}
-use Rattle.rex_cluster.specs.World.{World as ModelWorld, node_at, logs, put, after}
-use Rattle.rex_cluster.specs.Invariant.{Begins, KeepsAll}
-use Rattle.rex_safety.specs.Kept.{roles, IsWorld, IsKept}
-use Rattle.rex_safety.proofs.Nodes.{node_put}
+use Rattle.rex_log.proofs.Firsts.{first_take}
+use Rattle.rex_cluster.specs.Invariant.{KeepsAll}
+use Rattle.rex_safety.specs.Kept.{IsWorld}
 use Rattle.rex_cluster.proofs.Calls.{elect_good}
 use Rattle.rex_safety.proofs.Worlds.{called}
-use Rattle.rex_safety.proofs.Nexts.{next_fits}
-use Rattle.rex_safety.proofs.Keeps.{step_kept}
-use Rattle.rex_node.specs.Going.{RunsOn}
-use Rattle.rex_world.specs.declared.world.World.{World}
-use Rattle.rex_world.specs.Members.{disarmed}
-use Rattle.rex_world.specs.World.{world_of, nodes_of}
-use Rattle.rex_world.specs.Kept.{IsRunning}
-use Rattle.rex_world.specs.Calls.{Starts, step_in}
 use Rattle.rex_world.proofs.Placed.{many_here}
 use Rattle.rex_world.proofs.Working.{fit}
 

@@ -1,22 +1,10 @@
 -- The agreed trace runs, and its state has the variables of the summary.
-use Rattle.std.proofs.Common.{◌≡◌, ℕ, ℤ, suc, true, List, [], ◌∷◌, length, Option, refl, sym, ap, subst, ◌∙◌}
-use Rattle.std.specs.Prelude.{Some, IsSome, unwrap_or}
-use Rattle.rex_syntax.specs.declared.service.Declarations.{Declarations}
-use Rattle.rex_state.specs.Value.{StateValue}
-use Rattle.rex_state.specs.Start.{start_of}
-use Rattle.rex_state.specs.Machine.{run}
-use Rattle.rex_report.specs.declared.effect.Effect.{Effect}
-use Rattle.rex_schedule.specs.declared.scenario.Scenario.{Scenario}
-use Rattle.rex_cluster.specs.Values.{Value, trace_of, state_after, values_fit}
-use Rattle.rex_cluster.specs.Agreed.{agreed}
+use Rattle.rex_world.proofs.Common.{◌≡◌, ℕ, ℤ, suc, true, List, [], ◌∷◌, length, Option, refl, sym, ap, subst, ◌∙◌, IsSome, unwrap_or, Declarations, StateValue, start_of, run, Effect, Scenario, Value, trace_of, state_after, values_fit, agreed, beginning, after_lines, World, IsRunning, releases_from, messages_of, nodes_of, world_of}
+use Rattle.std.specs.Prelude.{Some}
 use Rattle.rex_cluster.specs.Quorum.{IsNode}
-use Rattle.rex_cluster.specs.World.{beginning, after_lines}
 use Rattle.rex_safety.specs.Keeping.{KeptValuesFit}
 use Rattle.rex_world.specs.declared.summary.Summary.{Summary}
-use Rattle.rex_world.specs.declared.world.World.{World}
-use Rattle.rex_world.specs.Kept.{IsRunning}
-use Rattle.rex_world.specs.Summaries.{releases_from, last_world, summary_of}
-use Rattle.rex_world.specs.World.{messages_of, nodes_of, world_of}
+use Rattle.rex_world.specs.Summaries.{last_world, summary_of}
 use Rattle.rex_world.proofs.Headlines.{fit_run}
 use Rattle.rex_world.proofs.Agreeing.{holds_of_longest}
 

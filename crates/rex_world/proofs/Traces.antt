@@ -1,12 +1,5 @@
 -- Worlds that lead on to the same end.
-use Rattle.std.proofs.Common.{◌≡◌, List, ◌∷◌, sym, ap, subst, ◌∙◌}
-use Rattle.rex_syntax.specs.declared.service.Declarations.{Declarations}
-use Rattle.rex_schedule.specs.declared.scenario.ScheduleLine.{ScheduleLine}
-use Rattle.rex_schedule.specs.declared.scenario.Scenario.{Scenario}
-use Rattle.rex_cluster.specs.World.{after_lines}
-use Rattle.rex_world.specs.declared.world.World.{World}
-use Rattle.rex_world.specs.Kept.{IsOf}
-use Rattle.rex_world.specs.World.{nodes_of, world_of}
+use Rattle.rex_world.proofs.Common.{◌≡◌, List, ◌∷◌, sym, ap, subst, ◌∙◌, Declarations, ScheduleLine, Scenario, after_lines, World, IsOf, nodes_of, world_of}
 use Rattle.rex_world.proofs.Runs.{next_of}
 
 -- the other lines lead on from the world that the next one makes

@@ -1,20 +1,12 @@
 -- A call of the model that appends nothing is the same where its next append will fail, and leaves that so.
-use Rattle.std.proofs.Common.{◌≡◌, ◌≤◌, ◌⊎◌, ℕ, zero, suc, Bool, true, false, cond, List, [], ◌∷◌, length, Option, Some, None, refl, ap, ◌∙◌, inl, inr, arith, le_refl}
-use Rattle.std.specs.Prelude.{◌==◌, nat_lt, nat_le}
-use Rattle.rex_event.specs.declared.event.Event.{Event}
-use Rattle.rex_report.specs.declared.effect.Effect.{Effect}
-use Rattle.rex_syntax.specs.declared.service.Declarations.{Declarations}
-use Rattle.rex_cluster.specs.Records.{Rec, Proposal, promise, accepted, offset, known, base}
-use Rattle.rex_syntax.specs.declared.version.Version.{Version}
+use Rattle.rex_world.proofs.Common.{◌≡◌, ◌≤◌, ◌⊎◌, ℕ, zero, suc, Bool, true, false, cond, List, [], ◌∷◌, length, Option, Some, None, refl, ap, ◌∙◌, inl, inr, arith, le_refl, ◌==◌, nat_lt, nat_le, Event, Effect, Declarations, Rec, Proposal, promise, offset, known, base, Version, Service, Content, Lead, Role, Failure, is_active, Promise, Accept, Ask, Follower, Leads, Value, service_of, if_active, CallHere, active_only, cut, ask, begin, append, elect, receive, replay, checkpoint, drop_known, migrate}
+use Rattle.rex_cluster.specs.Records.{accepted}
 use Rattle.rex_cluster.specs.Records.Rec.{Promised, Accepted, Checkpoint}
 use Rattle.rex_cluster.specs.Quorum.{is_in, is_majority}
-use Rattle.rex_cluster.specs.Node.{Service, Content, Lead, Role, Failure, Node, is_active}
-use Rattle.rex_cluster.specs.Node.Content.{Prepare, Promise, Accept, Accepted as Voted, Chosen as Chose, Nack, Ask, Snapshot}
-use Rattle.rex_cluster.specs.Node.Role.{Follower, Leads}
-use Rattle.rex_cluster.specs.Values.{Value, service_of}
-use Rattle.rex_steps.specs.Serving.{if_active}
-use Rattle.rex_cluster.specs.Lanes.{CallHere, active_only, cut_live, cut_lead, cut_role, cut}
-use Rattle.rex_cluster.specs.Calls.{Call, ask, begin, append, logged, propose, decide, choose, lead, turn, settle, enough, own_reports, stand, elect, on_prepare, heard, on_own_promise, on_promise, has_last, on_accept, voted, on_own_vote, on_voted, on_chosen, on_nack, on_snapshot, receive, replay, checkpoint, drop_known, migrate}
+use Rattle.rex_cluster.specs.Node.{Node}
+use Rattle.rex_cluster.specs.Node.Content.{Prepare, Accepted as Voted, Chosen as Chose, Nack, Snapshot}
+use Rattle.rex_cluster.specs.Lanes.{cut_live, cut_lead, cut_role}
+use Rattle.rex_cluster.specs.Calls.{Call, logged, propose, decide, choose, lead, turn, settle, enough, own_reports, stand, on_prepare, heard, on_own_promise, on_promise, has_last, on_accept, voted, on_own_vote, on_voted, on_chosen, on_nack, on_snapshot}
 
 -- the call where this append of its node will fail
 abbrev pub armed_as : {V S : Type 0} → Option Failure → Call V S → Call V S

@@ -1,33 +1,16 @@
 -- A node of a running world is active, or has no live events.
-use Rattle.std.proofs.Common.{◌≡◌, ◌⊎◌, inl, inr, ℕ, ◌+◌, ◌-◌, ◌^◌, ◌<◌, ◌≤◌, true, List, [], ◌∷◌, ◌++◌, length, Option, Some, None, is_some, refl, sym, ◌∙◌, ap, subst, arith}
-use Rattle.std.specs.Prelude.{unwrap_or, slice_index_or}
-use Rattle.std.specs.List.{list_all}
-use Rattle.std.proofs.lemmas.Bool.{and_parts}
+use Rattle.rex_world.proofs.Common.{◌≡◌, ◌⊎◌, inl, inr, ℕ, ◌+◌, ◌-◌, ◌^◌, ◌<◌, ◌≤◌, true, List, [], ◌∷◌, ◌++◌, length, Option, Some, None, is_some, refl, sym, ◌∙◌, ap, subst, arith, unwrap_or, slice_index_or, list_all, and_parts, Declarations, IsNode, start_of, lane_of, known, Lead, Role, Leads, Value, spells, runs, trace_of, state_after, values_fit, Here, live_state, node_at, next_fits, ActingValue, IsActing, role_of, work_of, AreLimits, counts_for, World, Member, IsMember, here_at, heres, nodes_of, IsRunning}
 use Rattle.std.proofs.lemmas.List.{append-nil}
-use Rattle.rex_syntax.specs.declared.service.Declarations.{Declarations}
 use Rattle.rex_event.specs.Cuts.{below}
 use Rattle.rex_cut.specs.Greatest.{greatest_cut}
-use Rattle.rex_schedule.specs.Fits.{IsNode}
 use Rattle.rex_paxos.specs.Acceptor.{AcceptorValue}
 use Rattle.rex_paxos.specs.Proposer.{ProposerValue}
-use Rattle.rex_state.specs.Start.{start_of}
-use Rattle.rex_state.specs.Machine.{lane_of}
-use Rattle.rex_cluster.specs.Records.{known}
-use Rattle.rex_cluster.specs.Node.{Lead, Role, Work}
-use Rattle.rex_cluster.specs.Node.Role.{Leads}
-use Rattle.rex_cluster.specs.Values.{Value, spells, runs, trace_of, state_after, values_fit}
-use Rattle.rex_cluster.specs.Lanes.{Here, live_state, node_trace}
-use Rattle.rex_cluster.specs.World.{node_at}
+use Rattle.rex_cluster.specs.Node.{Work}
+use Rattle.rex_cluster.specs.Lanes.{node_trace}
 use Rattle.rex_safety.specs.Keeping.{AreCounts}
 use Rattle.rex_cluster.proofs.Few.{counts_are_few}
-use Rattle.rex_safety.proofs.Nexts.{next_fits}
 use Rattle.rex_safety.proofs.Spelled.{kept_room, kept_cut}
-use Rattle.rex_node.specs.Parts.{ActingValue, IsActing, role_of, work_of}
-use Rattle.rex_node.specs.Calls.{AreLimits, CanBeCut, counts_for}
-use Rattle.rex_world.specs.declared.world.World.{World}
-use Rattle.rex_world.specs.Members.{Member, IsMember, here_at, heres}
-use Rattle.rex_world.specs.World.{nodes_of}
-use Rattle.rex_world.specs.Kept.{IsRunning}
+use Rattle.rex_node.specs.Calls.{CanBeCut}
 use Rattle.rex_world.proofs.Headlines.{fit_run}
 use Rattle.rex_world.proofs.Placed.{here_is, member_is}
 

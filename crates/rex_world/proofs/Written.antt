@@ -1,9 +1,7 @@
 -- A report that is written piece by piece.
-use Rattle.std.proofs.Common.{◌≡◌, ℕ, List, [], ◌∷◌, ◌++◌, length, take, drop, refl, sym, ap, ◌∙◌, append_assoc, append-nil, take-append-drop}
+use Rattle.rex_world.proofs.Common.{◌≡◌, ℕ, List, [], ◌∷◌, ◌++◌, length, take, drop, refl, sym, ap, ◌∙◌, append_assoc, append-nil, take-append-drop, GrowsByFront, IsWritten}
 use Rattle.std.specs.Prelude.{Result, Ok, Err, OnErr}
 use Rattle.rex_traits.proofs.Known.{grows_more}
-use Rattle.rex_traits.specs.Growth.{GrowsByFront}
-use Rattle.rex_world.specs.Writing.{IsWritten}
 
 take_none : (xs : List ℕ) → take 0 xs ≡ []
 take_none [] = refl

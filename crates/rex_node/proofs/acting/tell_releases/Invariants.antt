@@ -1,8 +1,6 @@
-use Rattle.std.proofs.Common.{◌≡◌, ◌++◌, List}
-use Rattle.std.specs.Prelude.{map, take}
-use Rattle.rex_report.specs.declared.effect.Effect.{Effect}
+use Rattle.rex_node.proofs.Common.{◌≡◌, ◌++◌, List, map, Effect, release_effect}
+use Rattle.std.specs.Prelude.{take}
 use Rattle.rex_msg.specs.declared.message.Message.{Message}
-use Rattle.rex_cluster.specs.Values.{release_effect}
 use Rattle.rex_node.proofs.acting.tell_releases.Given as goal
 
 -- the replies up to this one were told, and nothing was sent

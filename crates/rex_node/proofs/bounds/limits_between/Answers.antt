@@ -1,4 +1,4 @@
-use Rattle.std.proofs.Common.{◌+◌, min, ◌∷◌, [], ◌++◌, get_or, refl, ap, ◌∙◌}
+use Rattle.rex_node.proofs.Common.{◌+◌, min, ◌∷◌, [], ◌++◌, get_or, refl, ap, ◌∙◌}
 use Rattle.rex_node.proofs.Limited.{limits_more}
 use Rattle.rex_node.proofs.bounds.limits_between.Goals as goal
 

@@ -1,5 +1,4 @@
-use Rattle.std.proofs.Common.{◌≡◌, take}
-use Rattle.rex_cluster.specs.Lanes.{limits_between}
+use Rattle.rex_node.proofs.Common.{◌≡◌, take, limits_between}
 use Rattle.rex_node.proofs.bounds.limits_between.Given as goal
 
 abbrev pub invariant-loop-lane : goal.invariant-loop-lane

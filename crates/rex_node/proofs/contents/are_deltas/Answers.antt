@@ -1,7 +1,4 @@
-use Rattle.std.proofs.Common.{subst, arith}
-use Rattle.std.specs.List.{All}
-use Rattle.std.proofs.lemmas.List.{take_all}
-use Rattle.rex_transfer.specs.Window.{SpellsDelta}
+use Rattle.rex_node.proofs.Common.{subst, arith, All, take_all, SpellsDelta}
 use Rattle.rex_node.proofs.Deltas.{one_more}
 use Rattle.rex_node.proofs.contents.are_deltas.Goals as goal
 

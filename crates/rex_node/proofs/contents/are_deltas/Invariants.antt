@@ -1,6 +1,5 @@
+use Rattle.rex_node.proofs.Common.{All, SpellsDelta}
 use Rattle.std.specs.Prelude.{take}
-use Rattle.std.specs.List.{All}
-use Rattle.rex_transfer.specs.Window.{SpellsDelta}
 use Rattle.rex_node.proofs.contents.are_deltas.Given as goal
 
 -- the values before spell deltas

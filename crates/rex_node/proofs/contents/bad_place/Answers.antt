@@ -1,6 +1,4 @@
-use Rattle.std.proofs.Common.{subst}
-use Rattle.std.specs.List.{All}
-use Rattle.rex_transfer.specs.Window.{SpellsDelta}
+use Rattle.rex_node.proofs.Common.{subst, All, SpellsDelta}
 use Rattle.rex_node.proofs.Deltas.{none_bad_in}
 use Rattle.rex_node.proofs.contents.bad_place.Goals as goal
 

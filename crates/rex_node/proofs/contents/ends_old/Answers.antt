@@ -1,4 +1,4 @@
-use Rattle.std.proofs.Common.{arith}
+use Rattle.rex_node.proofs.Common.{arith}
 use Rattle.rex_node.proofs.Held.{ends_more}
 use Rattle.rex_node.proofs.contents.ends_old.Goals as goal
 

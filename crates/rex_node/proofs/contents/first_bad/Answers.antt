@@ -1,4 +1,4 @@
-use Rattle.std.proofs.Common.{◌-◌, ap, arith}
+use Rattle.rex_node.proofs.Common.{◌-◌, ap, arith}
 use Rattle.rex_node.proofs.Held.{looked_none, looked_more}
 use Rattle.rex_node.proofs.contents.first_bad.Goals as goal
 

@@ -1,4 +1,4 @@
-use Rattle.std.proofs.Common.{sym}
+use Rattle.rex_node.proofs.Common.{sym}
 use Rattle.rex_node.proofs.Held.{short_isn't_held}
 use Rattle.rex_node.proofs.contents.is_held.Goals as goal
 

@@ -1,4 +1,4 @@
-use Rattle.std.proofs.Common.{sym}
+use Rattle.rex_node.proofs.Common.{sym}
 use Rattle.rex_node.proofs.Silent.{value_silent}
 use Rattle.rex_node.proofs.replies.has_reply.Goals as goal
 

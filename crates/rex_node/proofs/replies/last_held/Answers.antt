@@ -1,6 +1,5 @@
-use Rattle.std.proofs.Common.{arith, ◌≡◌, ℕ, ◌-◌, ◌+◌, ◌<◌, suc, true, length, sym, ap, subst, ◌∙◌, slice_index_or}
-use Rattle.rex_gate.specs.Numbers.{replies_to}
-use Rattle.rex_cluster.specs.Values.{events_of}
+use Rattle.rex_node.proofs.Common.{arith, ◌≡◌, ℕ, ◌-◌, ◌+◌, ◌<◌, suc, true, length, sym, ap, subst, ◌∙◌, replies_to, events_of}
+use Rattle.std.proofs.Common.{slice_index_or}
 use Rattle.rex_node.proofs.Stamping.{IsSilent, found_last}
 use Rattle.rex_node.proofs.replies.last_held.Goals as goal
 

@@ -1,4 +1,4 @@
-use Rattle.std.proofs.Common.{◌-◌, length}
+use Rattle.rex_node.proofs.Common.{◌-◌, length}
 use Rattle.rex_node.proofs.Stamping.{IsSilent}
 use Rattle.rex_node.proofs.replies.last_held.Given as goal
 

@@ -1,5 +1,4 @@
-use Rattle.std.proofs.Common.{◌≡◌, drop}
-use Rattle.rex_gate.specs.Numbers.{replies_to}
+use Rattle.rex_node.proofs.Common.{◌≡◌, drop, replies_to}
 use Rattle.rex_node.proofs.replies.replies_to.Given as goal
 
 -- none of the events before replies

@@ -1,5 +1,5 @@
-use Rattle.std.proofs.Common.{arith, ◌≡◌, ◌<◌, [], ◌∷◌, ◌++◌, length, sym, ap₂, ◌∙◌}
-use Rattle.std.proofs.lemmas.List.{take_more}
+use Rattle.rex_node.proofs.Common.{arith, ◌≡◌, ◌<◌, [], ◌∷◌, ◌++◌, length, sym, ◌∙◌, take_more}
+use Rattle.std.proofs.Common.{ap₂}
 use Rattle.rex_node.proofs.restart.begin_alike.Goals as goal
 
 pub loop-index-preserved : goal.loop-index-preserved

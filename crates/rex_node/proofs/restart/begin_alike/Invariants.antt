@@ -1,4 +1,4 @@
-use Rattle.std.proofs.Common.{◌≡◌, take}
+use Rattle.rex_node.proofs.Common.{◌≡◌, take}
 use Rattle.rex_node.proofs.restart.begin_alike.Given as goal
 
 -- the values before are the same

@@ -1,5 +1,4 @@
-use Rattle.std.proofs.Common.{ap, sym, ◌∙◌}
-use Rattle.rex_node.specs.Restarting.{bad_at}
+use Rattle.rex_node.proofs.Common.{ap, sym, ◌∙◌, bad_at}
 use Rattle.rex_node.proofs.Held.{none_bad, not_bad, saved_so}
 use Rattle.rex_node.proofs.restart.recall_with.Goals as goal
 

@@ -1,7 +1,5 @@
-use Rattle.std.proofs.Common.{subst, ◌∙◌, arith}
+use Rattle.rex_node.proofs.Common.{subst, ◌∙◌, arith, behind_of, delta_in}
 use Rattle.rex_wire.specs.Decoding.{Fails}
-use Rattle.rex_delta.specs.Alone.{behind_of}
-use Rattle.rex_delta.specs.Reading.{delta_in}
 use Rattle.rex_node.proofs.Alone.{appended, none_appended, value_counted}
 use Rattle.rex_node.proofs.values.append_value.Goals as goal
 

@@ -1,5 +1,4 @@
-use Rattle.std.proofs.Common.{ap}
-use Rattle.rex_cluster.specs.Values.{events_of}
+use Rattle.rex_node.proofs.Common.{ap, events_of}
 use Rattle.rex_node.proofs.Replays.{joined_more}
 use Rattle.rex_node.proofs.values.joined.Goals as goal
 

@@ -1,4 +1,4 @@
-use Rattle.std.proofs.Common.{take}
+use Rattle.rex_node.proofs.Common.{take}
 use Rattle.rex_node.proofs.Replays.{AreJoined}
 use Rattle.rex_node.proofs.values.joined.Given as goal
 

@@ -1,4 +1,4 @@
-use Rattle.std.proofs.Common.{◌∙◌, ◌≤◌, ◌<◌, [], length, sym, arith}
+use Rattle.rex_world.proofs.Common.{◌∙◌, ◌≤◌, ◌<◌, [], length, sym, arith}
 use Rattle.rex_world.proofs.Learning.{learned_end, learned_next}
 use Rattle.rex_world.proofs.agreed.learn_from.Goals as goal
 

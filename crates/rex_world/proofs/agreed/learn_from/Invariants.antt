@@ -1,5 +1,4 @@
-use Rattle.std.proofs.Common.{◌≡◌, drop}
-use Rattle.rex_world.specs.Agreed.{learned}
+use Rattle.rex_world.proofs.Common.{◌≡◌, drop, learned}
 use Rattle.rex_world.proofs.agreed.learn_from.Given as goal
 
 -- the other records lead from here to where all of them lead from the first values

@@ -1,5 +1,4 @@
-use Rattle.std.proofs.Common.{take}
-use Rattle.rex_world.specs.Calls.{Sends}
+use Rattle.rex_world.proofs.Common.{take, Sends}
 use Rattle.rex_world.proofs.calls.send_all.Given as goal
 
 abbrev pub invariant-loop-message : goal.invariant-loop-message

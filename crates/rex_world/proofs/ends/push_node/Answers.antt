@@ -1,5 +1,4 @@
-use Rattle.std.proofs.Common.{◌≡◌, true, ap, sym, ◌∙◌}
-use Rattle.rex_report.specs.declared.ends.End.TheVariants.{Up}
+use Rattle.rex_world.proofs.Common.{◌≡◌, true, ap, sym, ◌∙◌, Up}
 use Rattle.rex_world.proofs.Endings.{told_as, shown_is, end_is, is_few}
 use Rattle.rex_world.proofs.ends.push_node.Goals as goal
 

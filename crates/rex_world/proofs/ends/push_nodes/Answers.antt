@@ -1,4 +1,4 @@
-use Rattle.std.proofs.Common.{◌<◌, length, get_or, ap, arith, ◌∙◌}
+use Rattle.rex_world.proofs.Common.{◌<◌, length, get_or, ap, arith, ◌∙◌}
 use Rattle.rex_world.proofs.Endings.{ends_next, member_at}
 use Rattle.rex_world.proofs.ends.push_nodes.Goals as goal
 

@@ -1,6 +1,4 @@
-use Rattle.std.proofs.Common.{◌≡◌, ◌++◌, take}
-use Rattle.rex_world.specs.Report.{ends_text}
-use Rattle.rex_world.specs.Members.{heres}
+use Rattle.rex_world.proofs.Common.{◌≡◌, ◌++◌, take, ends_text, heres}
 use Rattle.rex_world.proofs.ends.push_nodes.Given as goal
 
 abbrev pub invariant-loop-node : goal.invariant-loop-node

@@ -1,6 +1,4 @@
-use Rattle.std.proofs.Common.{◌≡◌, ◌++◌, take}
-use Rattle.std.specs.Prelude.{filter}
-use Rattle.rex_world.specs.Summaries.{is_release}
+use Rattle.rex_world.proofs.Common.{◌≡◌, ◌++◌, take, filter, is_release}
 use Rattle.rex_world.proofs.following.push_releases.Given as goal
 
 -- the releases among the effects before this one were appended

@@ -1,5 +1,4 @@
-use Rattle.std.proofs.Common.{◌≡◌, ◌++◌, drop}
-use Rattle.rex_world.specs.Report.{effects_text}
+use Rattle.rex_world.proofs.Common.{◌≡◌, ◌++◌, drop, effects_text}
 use Rattle.rex_world.proofs.report.push_effects.Given as goal
 
 -- with the other effects all will be told

@@ -1,6 +1,4 @@
-use Rattle.std.proofs.Common.{◌≡◌, drop, length}
-use Rattle.rex_cluster.specs.Reading.{seen_by_releases, stamp_at}
-use Rattle.rex_world.specs.Members.{here_at}
+use Rattle.rex_world.proofs.Common.{◌≡◌, drop, length, seen_by_releases, stamp_at, here_at}
 use Rattle.rex_world.proofs.seeing.show.Given as goal
 
 -- the other effects lead from here where all lead from the first numbers

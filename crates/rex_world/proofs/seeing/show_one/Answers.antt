@@ -1,4 +1,4 @@
-use Rattle.std.proofs.Common.{inl}
+use Rattle.rex_world.proofs.Common.{inl}
 use Rattle.rex_world.proofs.seeing.show_one.Goals as goal
 
 pub show_reply-requires-clause-up : goal.show_reply-requires-clause-up

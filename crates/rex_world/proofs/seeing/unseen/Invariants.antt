@@ -1,5 +1,4 @@
-use Rattle.std.proofs.Common.{◌≡◌}
-use Rattle.std.specs.Prelude.{replicate}
+use Rattle.rex_world.proofs.Common.{◌≡◌, replicate}
 use Rattle.rex_world.proofs.seeing.unseen.Given as goal
 
 abbrev pub invariant-loop : goal.invariant-loop

@@ -1,4 +1,4 @@
-use Rattle.std.proofs.Common.{◌≡◌, ◌++◌, IfOk, subst}
+use Rattle.rex_world.proofs.Common.{◌≡◌, ◌++◌, IfOk, subst}
 use Rattle.rex_world.proofs.Started.{joined_back, migrate_stays}
 use Rattle.rex_world.proofs.starting.come_back.Goals as goal
 

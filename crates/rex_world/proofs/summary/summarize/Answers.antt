@@ -1,4 +1,4 @@
-use Rattle.std.proofs.Common.{◌∙◌, refl}
+use Rattle.rex_world.proofs.Common.{◌∙◌, refl}
 use Rattle.rex_world.proofs.Summing.{agreed_runs, summary_is}
 use Rattle.rex_world.proofs.summary.summarize.Goals as goal
 

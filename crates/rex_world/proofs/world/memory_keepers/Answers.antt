@@ -1,8 +1,5 @@
-use Rattle.std.proofs.Common.{◌+◌, ◌∷◌, [], length, ap, length-append, subst, sym, ◌∙◌}
-use Rattle.std.specs.List.{All}
+use Rattle.rex_world.proofs.Common.{◌+◌, ◌∷◌, [], length, ap, length-append, subst, sym, ◌∙◌, All, memory_value, IsFresh}
 use Rattle.std.proofs.lemmas.List.Elements.{All-push}
-use Rattle.rex_traits.specs.StoreLaws.{memory_value}
-use Rattle.rex_world.specs.Members.{IsFresh}
 use Rattle.rex_world.proofs.world.memory_keepers.Goals as goal
 
 pub loop-preserved : goal.loop-preserved

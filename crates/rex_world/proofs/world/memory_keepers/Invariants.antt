@@ -1,7 +1,4 @@
-use Rattle.std.proofs.Common.{◌≡◌, length}
-use Rattle.std.specs.List.{All}
-use Rattle.rex_traits.specs.StoreLaws.{memory_value}
-use Rattle.rex_world.specs.Members.{IsFresh}
+use Rattle.rex_world.proofs.Common.{◌≡◌, length, All, memory_value, IsFresh}
 use Rattle.rex_world.proofs.world.memory_keepers.Given as goal
 
 abbrev pub invariant-loop : goal.invariant-loop

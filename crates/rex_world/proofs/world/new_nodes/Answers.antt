@@ -1,9 +1,5 @@
-use Rattle.std.proofs.Common.{◌≡◌, ◌+◌, ◌∷◌, length, ap, arith, subst, sym, ◌∙◌}
-use Rattle.std.specs.List.{All}
-use Rattle.std.specs.Vec.Iter.{into_iter_items}
-use Rattle.std.proofs.lemmas.List.Elements.{All-head, All-rest}
-use Rattle.rex_traits.specs.Stores.{value_by}
-use Rattle.rex_world.specs.Members.{IsFresh}
+use Rattle.rex_world.proofs.Common.{◌≡◌, ◌+◌, ◌∷◌, length, ap, arith, subst, sym, ◌∙◌, All, into_iter_items, All-head, value_by, IsFresh}
+use Rattle.std.proofs.lemmas.List.Elements.{All-rest}
 use Rattle.rex_world.proofs.Beginning.{AreNew, new_next, none_new}
 use Rattle.rex_world.proofs.world.new_nodes.Goals as goal
 

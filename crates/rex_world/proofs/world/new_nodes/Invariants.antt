@@ -1,8 +1,5 @@
-use Rattle.std.proofs.Common.{◌≡◌, ◌+◌, length}
-use Rattle.std.specs.List.{All}
-use Rattle.std.specs.Vec.Iter.{into_iter_items, into_iter_len}
-use Rattle.rex_traits.specs.Stores.{value_by}
-use Rattle.rex_world.specs.Members.{IsFresh}
+use Rattle.rex_world.proofs.Common.{◌≡◌, ◌+◌, length, All, into_iter_items, value_by, IsFresh}
+use Rattle.std.specs.Vec.Iter.{into_iter_len}
 use Rattle.rex_world.proofs.Beginning.{AreNew}
 use Rattle.rex_world.proofs.world.new_nodes.Given as goal
 

@@ -1,5 +1,4 @@
-use Rattle.std.proofs.Common.{ap, sym, ◌∙◌, length}
-use Rattle.rex_state.specs.Counts.{counts_of}
+use Rattle.rex_node.proofs.Common.{ap, sym, ◌∙◌, length, counts_of}
 use Rattle.rex_node.proofs.Proposing.{lasts_long}
 use Rattle.rex_node.proofs.acting.Acting.counts.Goals as goal
 

@@ -1,4 +1,4 @@
-use Rattle.std.proofs.Common.{ap, ◌∙◌}
+use Rattle.rex_node.proofs.Common.{ap, ◌∙◌}
 use Rattle.rex_node.proofs.Proposing.{trace_cut}
 use Rattle.rex_node.proofs.acting.Acting.piece.Goals as goal
 

@@ -1,4 +1,4 @@
-use Rattle.std.proofs.Common.{ap}
+use Rattle.rex_node.proofs.Common.{ap}
 use Rattle.rex_durable.specs.declared.records.Rec.TheVariants as kept
 use Rattle.rex_node.proofs.Promises.{appends_at, on_err_anyway, accept_down, accept_stuck, accept_on}
 use Rattle.rex_node.proofs.node.Node.accept.Goals as goal

@@ -1,8 +1,5 @@
-use Rattle.std.proofs.Common.{◌≡◌, length, ap, ◌∙◌}
-use Rattle.std.specs.Prelude.{unwrap_or}
-use Rattle.rex_state.proofs.Sounds.{run_keeps, start_keeps}
+use Rattle.rex_node.proofs.Common.{◌≡◌, length, ap, ◌∙◌, unwrap_or, run_keeps, start_keeps, whole, knows, reached_at}
 use Rattle.rex_gate.proofs.Noted.{some_entries}
-use Rattle.rex_node.specs.Parts.{whole, knows, reached_at}
 use Rattle.rex_node.proofs.Rounds.{activated_is}
 use Rattle.rex_node.proofs.node.Node.activate.Goals as goal
 

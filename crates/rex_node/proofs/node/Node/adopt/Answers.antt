@@ -1,5 +1,4 @@
-use Rattle.std.proofs.Common.{ap, ◌∙◌}
-use Rattle.rex_node.specs.Parts.{whole}
+use Rattle.rex_node.proofs.Common.{ap, ◌∙◌, whole}
 use Rattle.rex_node.proofs.Written.{on_err}
 use Rattle.rex_node.proofs.Adopting.{adopt_down, adopt_rests, adopt_stuck, alone_again, alone_count, alone_cut, alone_down, alone_fits, alone_kept, alone_leads, alone_next, alone_stuck, alone_up, chooses_of, chosen_cut, chosen_leads, chosen_short, chosen_there, known_as, learns_as, longer_as, nodes_few, nodes_many, opens_as, opens_short_as, parts_as, same_then, told_is}
 use Rattle.rex_node.proofs.node.Node.adopt.Goals as goal

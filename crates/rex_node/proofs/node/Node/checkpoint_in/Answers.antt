@@ -1,8 +1,6 @@
-use Rattle.std.proofs.Common.{[], ◌∷◌, Err, sym, ap, subst, ◌∙◌}
-use Rattle.rex_durable.specs.Spelling.{record_bytes}
+use Rattle.rex_node.proofs.Common.{[], ◌∷◌, Err, sym, ap, subst, ◌∙◌, record_bytes, IsCheckpoint, whole}
 use Rattle.rex_report.specs.declared.effect.Effect.TheVariants as effect
-use Rattle.rex_node.specs.Checkpointing.{IsCheckpoint, SavesOr}
-use Rattle.rex_node.specs.Parts.{whole}
+use Rattle.rex_node.specs.Checkpointing.{SavesOr}
 use Rattle.rex_node.proofs.Ending.{stands_own}
 use Rattle.rex_node.proofs.Saved.{fell_does, replayed_limited, replayed_sound_now, saved_does, saved_stays, spelling}
 use Rattle.rex_node.proofs.node.Node.checkpoint_in.Goals as goal

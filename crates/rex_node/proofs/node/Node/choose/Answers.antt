@@ -1,9 +1,8 @@
-use Rattle.std.proofs.Common.{Some, ap, sym, ◌∙◌}
+use Rattle.rex_node.proofs.Common.{Some, ap, sym, ◌∙◌, whole}
 use Rattle.rex_node.proofs.Written.{on_err}
 use Rattle.rex_node.proofs.Adopting.{known_as, learns_as, longer_as}
 use Rattle.rex_node.proofs.Majorities.{choose_cut, choose_down, choose_fits, choose_kept, choose_leads, choose_next, choose_short, choose_stuck, choose_there, chosen_count, chosen_ends, chosen_free, chosen_kept, chosen_may, chosen_of, chosen_runs, chosen_stuck, chosen_up}
 use Rattle.rex_node.proofs.node.Node.choose.Goals as goal
-use Rattle.rex_node.specs.Parts.{whole}
 
 pub learn-requires-clause-kept : goal.learn-requires-clause-kept
 learn-requires-clause-kept g c =

@@ -1,5 +1,4 @@
-use Rattle.std.proofs.Common.{sym, ap, ◌∙◌}
-use Rattle.rex_node.specs.Parts.{count_of}
+use Rattle.rex_node.proofs.Common.{sym, ap, ◌∙◌, count_of}
 use Rattle.rex_node.proofs.Knows.{many_known}
 use Rattle.rex_node.proofs.node.Node.count.Goals as goal
 

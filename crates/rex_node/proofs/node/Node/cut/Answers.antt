@@ -1,17 +1,9 @@
-use Rattle.std.proofs.Common.{length, ap, ◌∙◌, refl}
-use Rattle.std.specs.Option.{option_copied}
-use Rattle.rex_cluster.specs.Lanes.{cut}
-use Rattle.rex_cluster.specs.Calls.{begin}
-use Rattle.rex_node.specs.Calls.{counts_for}
-use Rattle.rex_node.specs.Cutting.{ProposesPiece, ProposesPieceShort}
-use Rattle.rex_node.specs.Going.{Ends, IsStuck}
-use Rattle.rex_node.specs.Parts.{here_of, whole}
+use Rattle.rex_node.proofs.Common.{length, ap, ◌∙◌, refl, option_copied, cut, begin, counts_for, ProposesPiece, ProposesPieceShort, Ends, IsStuck, here_of, whole, armed_with}
 use Rattle.rex_node.proofs.Ending.{HasCome, told, down, left, kept}
 use Rattle.rex_node.proofs.OwnPieces.{cut_ends, cut_short, if_then}
 use Rattle.rex_node.proofs.ProposedCuts.{on_error}
 use Rattle.rex_node.proofs.Quiet.{cut_well}
 use Rattle.rex_node.proofs.Told.{steps_tell}
-use Rattle.rex_node.specs.Calls.{armed_with}
 use Rattle.rex_cluster.proofs.TellNone.{cut_tells_none}
 use Rattle.rex_node.proofs.node.Node.cut.Given.{Over}
 use Rattle.rex_node.proofs.node.Node.cut.Goals as goal

@@ -1,7 +1,5 @@
-use Rattle.std.proofs.Common.{length, refl, sym, ap, ◌∙◌}
+use Rattle.rex_node.proofs.Common.{length, refl, sym, ap, ◌∙◌, service_of, here_of, whole}
 use Rattle.rex_cluster.specs.Calls as calls
-use Rattle.rex_cluster.specs.Values.{service_of}
-use Rattle.rex_node.specs.Parts.{here_of, whole}
 use Rattle.rex_node.proofs.Ending.{HasCome, told, down, left, kept}
 use Rattle.rex_node.proofs.Quiet.{dropped_well, replies_quiet}
 use Rattle.rex_node.proofs.node.Node.drop_known.Given as given

@@ -1,7 +1,6 @@
-use Rattle.std.proofs.Common.{[], ◌∷◌, ◌++◌, refl, sym, ap, subst, ◌∙◌, ◌≤◌}
+use Rattle.rex_node.proofs.Common.{[], ◌∷◌, ◌++◌, refl, sym, ap, subst, ◌∙◌, ◌≤◌, count_of}
 use Rattle.rex_durable.specs.declared.records.Rec.TheVariants as kept
 use Rattle.rex_report.specs.declared.effect.Effect.TheVariants as effect
-use Rattle.rex_node.specs.Parts.{count_of}
 use Rattle.rex_node.proofs.Dropping.{drop_counts, drop_down, drop_ends, drop_stuck}
 use Rattle.rex_node.proofs.Promises.{appends_at, on_err_anyway}
 use Rattle.rex_node.proofs.node.Node.drop_to_base.Goals as goal

@@ -1,9 +1,5 @@
-use Rattle.std.proofs.Common.{ap, sym, ◌∙◌, length}
-use Rattle.rex_cluster.specs.Calls.{begin, elect}
+use Rattle.rex_node.proofs.Common.{ap, sym, ◌∙◌, length, begin, elect, service_of, here_of, whole, armed_with}
 use Rattle.rex_cluster.proofs.TellNone.{elect_tells_none}
-use Rattle.rex_cluster.specs.Values.{service_of}
-use Rattle.rex_node.specs.Parts.{here_of, whole}
-use Rattle.rex_node.specs.Calls.{armed_with}
 use Rattle.rex_node.proofs.Candidates.{elect_quiet, elected}
 use Rattle.rex_node.proofs.Ending as ending
 use Rattle.rex_node.proofs.Told.{steps_tell}

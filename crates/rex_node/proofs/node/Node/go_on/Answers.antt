@@ -1,7 +1,7 @@
 use Rattle.rex_node.proofs.Written.{on_err}
 use Rattle.rex_node.proofs.Turns.{gone_again, gone_done, gone_none, gone_stuck, round_as}
 use Rattle.rex_node.proofs.node.Node.go_on.Goals as goal
-use Rattle.rex_node.specs.Parts.{whole}
+use Rattle.rex_node.proofs.Common.{whole}
 
 pub returns-in_err-round-clause-stuck : goal.returns-in_err-round-clause-stuck
 returns-in_err-round-clause-stuck g c =

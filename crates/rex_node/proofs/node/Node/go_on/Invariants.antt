@@ -1,6 +1,6 @@
 use Rattle.rex_node.proofs.Turns.{GoneOn}
 use Rattle.rex_node.proofs.node.Node.go_on.Given as goal
-use Rattle.rex_node.specs.Parts.{whole}
+use Rattle.rex_node.proofs.Common.{whole}
 
 -- the node has gone on so far
 abbrev pub invariant-loop-left : goal.invariant-loop-left

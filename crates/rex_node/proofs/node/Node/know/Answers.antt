@@ -1,5 +1,4 @@
-use Rattle.std.proofs.Common.{ap, arith}
-use Rattle.rex_node.specs.Parts.{count_of}
+use Rattle.rex_node.proofs.Common.{ap, arith, count_of}
 use Rattle.rex_node.proofs.Knows.{many_known}
 use Rattle.rex_node.proofs.node.Node.know.Goals as goal
 

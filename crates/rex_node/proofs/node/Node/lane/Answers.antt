@@ -1,11 +1,6 @@
-use Rattle.std.proofs.Common.{ap, ◌≡◌, ◌+◌, ◌<◌, length, w64, sym, subst, ◌∙◌}
-use Rattle.std.proofs.lemmas.Int.{to_z-of_z}
-use Rattle.rand_pcg.specs.Pcg.{pcg32}
-use Rattle.rex_record.specs.Turn.{turn_of}
-use Rattle.rex_state.specs.Machine.{lane_of}
+use Rattle.rex_node.proofs.Common.{ap, ◌≡◌, ◌+◌, ◌<◌, length, w64, sym, subst, ◌∙◌, to_z-of_z, pcg32, turn_of, lane_of, whole}
 use Rattle.rex_node.proofs.Executing.{live_state_of, turn_of_node, turn_leads, turn_stays}
 use Rattle.rex_node.proofs.node.Node.lane.Goals as goal
-use Rattle.rex_node.specs.Parts.{whole}
 
 pub lane-requires-clause-count : goal.lane-requires-clause-count
 lane-requires-clause-count g c =

@@ -1,9 +1,8 @@
-use Rattle.std.proofs.Common.{length, ap, arith}
+use Rattle.rex_node.proofs.Common.{length, ap, arith, whole}
 use Rattle.rex_node.proofs.Deltas.{last_spelled}
 use Rattle.rex_node.proofs.Written.{on_err}
 use Rattle.rex_node.proofs.Knowing.{learn_settles, learn_parts, learn_down, learn_on, learn_stuck}
 use Rattle.rex_node.proofs.node.Node.learn.Goals as goal
-use Rattle.rex_node.specs.Parts.{whole}
 
 pub know-requires : goal.know-requires
 know-requires g c = record {

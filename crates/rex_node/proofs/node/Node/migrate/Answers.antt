@@ -1,11 +1,6 @@
-use Rattle.std.proofs.Common.{[], ◌∷◌, Err, sym, ap, subst, ◌∙◌}
-use Rattle.rex_state.specs.Sound.{IsSound}
-use Rattle.rex_snapshot.specs.Spelling.{IsLimited}
-use Rattle.rex_syntax.specs.declared.version.Version.TheVariants.{Two}
-use Rattle.rex_durable.specs.Spelling.{record_bytes}
+use Rattle.rex_node.proofs.Common.{[], ◌∷◌, Err, sym, ap, subst, ◌∙◌, IsSound, IsLimited, Two, record_bytes, IsCheckpoint, whole}
 use Rattle.rex_report.specs.declared.effect.Effect.TheVariants as effect
-use Rattle.rex_node.specs.Checkpointing.{IsCheckpoint, MigratesOr}
-use Rattle.rex_node.specs.Parts.{whole}
+use Rattle.rex_node.specs.Checkpointing.{MigratesOr}
 use Rattle.rex_node.proofs.Ending.{stands_own}
 use Rattle.rex_node.proofs.SavedAgain.{fell_does, fell_down, fell_stays, migrated_does, migrated_down, migrated_stays, spelling, start_limited, start_sound}
 use Rattle.rex_node.proofs.Migrated.{spells_again, spells_anyway, spells_as, spells_itself}

@@ -1,5 +1,4 @@
-use Rattle.std.proofs.Common.{◌<◌, ◌≤◌, ap, sym, arith, ◌∙◌}
-use Rattle.rex_paxos.specs.Acceptor.{answer_to_accept}
+use Rattle.rex_node.proofs.Common.{◌<◌, ◌≤◌, ap, sym, arith, ◌∙◌, answer_to_accept}
 use Rattle.rex_paxos.specs.declared.answers.Asked.TheVariants as asked
 use Rattle.rex_node.proofs.Bases.{base_tells}
 use Rattle.rex_node.proofs.Promises.{accept_again, accept_old}

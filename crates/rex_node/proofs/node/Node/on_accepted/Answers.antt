@@ -1,4 +1,4 @@
-use Rattle.std.proofs.Common.{[], ◌∷◌, ◌++◌, ap, sym, ◌∙◌}
+use Rattle.rex_node.proofs.Common.{[], ◌∷◌, ◌++◌, ap, sym, ◌∙◌}
 use Rattle.rex_node.proofs.Votes.{vote_counted, vote_ignored, vote_one}
 use Rattle.rex_node.proofs.node.Node.on_accepted.Goals as goal
 

@@ -1,5 +1,4 @@
-use Rattle.std.proofs.Common.{◌<◌, ◌≤◌, length, ap, arith}
-use Rattle.rex_node.specs.Parts.{knows}
+use Rattle.rex_node.proofs.Common.{◌<◌, ◌≤◌, length, ap, arith, knows}
 use Rattle.rex_node.proofs.Bases.{base_tells}
 use Rattle.rex_node.proofs.Choices.{asked_beyond, asked_old, asked_on}
 use Rattle.rex_node.proofs.node.Node.on_ask.Goals as goal

@@ -1,4 +1,4 @@
-use Rattle.std.proofs.Common.{◌+◌, arith}
+use Rattle.rex_node.proofs.Common.{◌+◌, arith}
 use Rattle.rex_node.proofs.Following.{chosen_ignored}
 use Rattle.rex_node.proofs.node.Node.on_chosen.Goals as goal
 

@@ -1,10 +1,4 @@
-use Rattle.std.proofs.Common.{◌≡◌, length, true, refl, sym, ap, subst, ◌∙◌}
-use Rattle.rex_cluster.specs.Calls.{receive}
-use Rattle.rex_cluster.specs.Lanes.{CallHere}
-use Rattle.rex_cluster.specs.Records.{known}
-use Rattle.rex_cluster.specs.Values.{service_of, values_fit}
-use Rattle.rex_log.specs.Messages.{content_in}
-use Rattle.rex_node.specs.Parts.{whole}
+use Rattle.rex_node.proofs.Common.{◌≡◌, length, true, refl, sym, ap, subst, ◌∙◌, receive, CallHere, known, service_of, values_fit, content_in, whole}
 use Rattle.rex_node.proofs.Ending.{HasCome, begins, told, down, left, kept}
 use Rattle.rex_node.proofs.Executing.{up_of}
 use Rattle.rex_node.proofs.Quiet.{receive_well, replies_quiet}

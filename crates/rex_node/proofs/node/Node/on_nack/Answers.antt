@@ -1,4 +1,4 @@
-use Rattle.std.proofs.Common.{sym, ◌∙◌}
+use Rattle.rex_node.proofs.Common.{sym, ◌∙◌}
 use Rattle.rex_node.proofs.Following.{nack_ignored, nack_follows}
 use Rattle.rex_node.proofs.node.Node.on_nack.Goals as goal
 

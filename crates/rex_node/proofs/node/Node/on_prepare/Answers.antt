@@ -1,4 +1,4 @@
-use Rattle.std.proofs.Common.{◌≡◌, ◌<◌, ◌≤◌, ap, arith}
+use Rattle.rex_node.proofs.Common.{◌≡◌, ◌<◌, ◌≤◌, ap, arith}
 use Rattle.rex_node.proofs.Bases.{base_tells}
 use Rattle.rex_node.proofs.Promises.{prepare_again, prepare_old}
 use Rattle.rex_node.proofs.node.Node.on_prepare.Goals as goal

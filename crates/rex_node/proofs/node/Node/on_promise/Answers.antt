@@ -1,12 +1,6 @@
-use Rattle.std.proofs.Common.{sym, subst, inl, ◌∙◌}
-use Rattle.std.specs.Prelude.{map}
+use Rattle.rex_node.proofs.Common.{sym, subst, inl, ◌∙◌, map, IsStuck, whole, on_promise, service_of, proposal_in}
 use Rattle.rex_node.proofs.Counts.{counts_many, counts_to, promise_back, promise_ends, promise_free, ignored_same, promise_have, promise_ignored, promise_kept, promise_runs, promise_stuck, promise_turns}
 use Rattle.rex_node.proofs.node.Node.on_promise.Goals as goal
-use Rattle.rex_node.specs.Going.{IsStuck}
-use Rattle.rex_node.specs.Parts.{whole}
-use Rattle.rex_cluster.specs.Calls.{on_promise}
-use Rattle.rex_cluster.specs.Values.{service_of}
-use Rattle.rex_log.specs.Log.{proposal_in}
 use Rattle.rex_node.proofs.Stuck.{stands_same}
 use Rattle.rex_node.proofs.Written.{on_err}
 

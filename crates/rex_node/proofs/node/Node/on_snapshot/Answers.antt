@@ -1,6 +1,5 @@
-use Rattle.std.proofs.Common.{◌+◌, length, ap, subst}
+use Rattle.rex_node.proofs.Common.{◌+◌, length, ap, subst, knows}
 use Rattle.rex_msg.specs.declared.message.Content.TheVariants as sent
-use Rattle.rex_node.specs.Parts.{knows}
 use Rattle.rex_node.specs.Telling.{IsToldState}
 use Rattle.rex_node.proofs.Moving.{snapshot_ignored, told_fits}
 use Rattle.rex_node.proofs.AsTold.{none_kept}

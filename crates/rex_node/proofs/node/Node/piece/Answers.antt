@@ -1,9 +1,4 @@
-use Rattle.std.proofs.Common.{sym, subst, ◌∙◌}
-use Rattle.std.specs.Option.{option_copied}
-use Rattle.rex_event.specs.Cuts.{below}
-use Rattle.rex_cut.specs.Greatest.{greatest_cut}
-use Rattle.rex_node.specs.Calls.{RefusesThen, counts_for, refusal_of_none}
-use Rattle.rex_node.specs.Parts.{here_of, whole}
+use Rattle.rex_node.proofs.Common.{sym, subst, ◌∙◌, option_copied, below, greatest_cut, RefusesThen, counts_for, refusal_of_none, here_of, whole}
 use Rattle.rex_node.proofs.Executing.{up_of}
 use Rattle.rex_node.proofs.Dues.{can_make, refuses_node}
 use Rattle.rex_node.proofs.node.Node.piece.Goals as goal

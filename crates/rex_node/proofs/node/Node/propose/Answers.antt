@@ -1,5 +1,4 @@
-use Rattle.std.proofs.Common.{ap, ◌∙◌}
-use Rattle.std.specs.Prelude.{unwrap_or}
+use Rattle.rex_node.proofs.Common.{ap, ◌∙◌, unwrap_or}
 use Rattle.rex_node.proofs.Written.{on_err}
 use Rattle.rex_node.proofs.Opening.{propose_spelled, propose_on, propose_down, propose_stuck}
 use Rattle.rex_node.proofs.node.Node.propose.Goals as goal

@@ -1,6 +1,5 @@
-use Rattle.std.proofs.Common.{ap, sym, subst, ◌∙◌, IfOk, OnErr}
-use Rattle.rex_node.specs.Cutting.{ProposesCut, ProposesPiece, ProposesPieceShort}
-use Rattle.rex_node.specs.Parts.{NodeValue, whole}
+use Rattle.rex_node.proofs.Common.{ap, sym, subst, ◌∙◌, ProposesCut, ProposesPiece, ProposesPieceShort, NodeValue, whole}
+use Rattle.std.proofs.Common.{IfOk, OnErr}
 use Rattle.rex_node.proofs.OwnPieces.{if_error, if_then, on_ok, own_cut, own_fits, piece_ends, piece_short}
 use Rattle.rex_node.proofs.ProposedCuts.{on_error}
 use Rattle.rex_node.proofs.node.Node.propose_piece.Goals as goal

@@ -1,6 +1,5 @@
-use Rattle.std.proofs.Common.{◌≡◌, ◌+◌, ◌<◌, ◌-◌, ◌^◌, length, ap, sym, subst, ◌∙◌}
+use Rattle.rex_node.proofs.Common.{◌≡◌, ◌+◌, ◌<◌, ◌-◌, ◌^◌, length, ap, sym, subst, ◌∙◌, knows}
 use Rattle.rex_cluster.proofs.Replies.{some_of}
-use Rattle.rex_node.specs.Parts.{knows}
 use Rattle.rex_node.proofs.ProposedCuts.{cut_fell, cut_short, cut_stuck, cut_waits, cut_known, counted_between, idle_leads, if_both, kept_between, on_error, told_same}
 use Rattle.rex_node.proofs.Written.{on_err}
 use Rattle.rex_node.proofs.node.Node.propose_value.Goals as goal

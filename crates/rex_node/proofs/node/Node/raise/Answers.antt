@@ -1,4 +1,4 @@
-use Rattle.std.proofs.Common.{refl}
+use Rattle.rex_node.proofs.Common.{refl}
 use Rattle.rex_durable.specs.declared.records.Rec.TheVariants as kept
 use Rattle.rex_node.proofs.Promises.{appends_at, on_err_anyway, raise_down, raise_stuck, raise_on}
 use Rattle.rex_node.proofs.node.Node.raise.Goals as goal

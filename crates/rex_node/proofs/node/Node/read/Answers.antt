@@ -1,8 +1,6 @@
-use Rattle.std.proofs.Common.{SFits, w64, rules, ap, sym, ◌∙◌}
-use Rattle.std.proofs.lemmas.Int.{to_z-of_z}
-use Rattle.rex_reads.specs.Reads.{answered, seen_after}
-use Rattle.rex_cluster.specs.Reading.{value_in}
-use Rattle.rex_node.specs.Parts.{state_of}
+use Rattle.rex_node.proofs.Common.{w64, ap, sym, ◌∙◌, to_z-of_z, answered, value_in, state_of}
+use Rattle.std.proofs.Common.{SFits, rules}
+use Rattle.rex_reads.specs.Reads.{seen_after}
 use Rattle.rex_node.proofs.Admitted.{read_is}
 use Rattle.rex_node.proofs.node.Node.read.Goals as goal
 

@@ -1,14 +1,6 @@
-use Rattle.std.proofs.Common.{OnErr, subst, sym}
-use Rattle.std.specs.Prelude.{map}
-use Rattle.rex_cluster.specs.Calls.{receive}
-use Rattle.rex_cluster.specs.Node.Content.{Promise, Accepted as Voted, Chosen as Chose, Nack, Snapshot}
-use Rattle.rex_cluster.specs.Values.{service_of}
+use Rattle.rex_node.proofs.Common.{subst, sym, map, receive, Promise, Voted, Chose, Nack, Snapshot, service_of, first, proposal_in, content_in, armed_with, IsStuck, so_far, whole}
+use Rattle.std.proofs.Common.{OnErr}
 use Rattle.rex_cluster.proofs.TellNone.{receive_tells_none}
-use Rattle.rex_log.specs.Log.{first, proposal_in}
-use Rattle.rex_log.specs.Messages.{content_in}
-use Rattle.rex_node.specs.Calls.{armed_with}
-use Rattle.rex_node.specs.Going.{IsStuck, so_far}
-use Rattle.rex_node.specs.Parts.{whole}
 use Rattle.rex_node.proofs.Told.{nothing_tells, ok_tells}
 use Rattle.rex_node.proofs.node.Node.receive.Goals as goal
 

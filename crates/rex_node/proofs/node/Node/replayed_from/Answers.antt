@@ -1,6 +1,6 @@
-use Rattle.std.proofs.Common.{◌≡◌, ◌-◌, drop, IfOk, sym, ap, subst, ◌∙◌, arith}
+use Rattle.rex_node.proofs.Common.{◌≡◌, ◌-◌, drop, sym, ap, subst, ◌∙◌, arith, count_of}
+use Rattle.std.proofs.Common.{IfOk}
 use Rattle.std.specs.Prelude.{Some}
-use Rattle.rex_node.specs.Parts.{count_of}
 use Rattle.rex_node.proofs.Knows.{drop_known, many_known}
 use Rattle.rex_node.proofs.ReplayLemmas.{from_sound, rest_runs, rest_runs_to}
 use Rattle.rex_node.proofs.node.Node.replayed_from.Goals as goal

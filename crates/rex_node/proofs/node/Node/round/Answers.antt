@@ -1,5 +1,4 @@
-use Rattle.std.proofs.Common.{◌≡◌, ◌+◌, length, ap, sym, ◌∙◌}
-use Rattle.rex_node.specs.Parts.{knows}
+use Rattle.rex_node.proofs.Common.{◌≡◌, ◌+◌, length, ap, sym, ◌∙◌, knows}
 use Rattle.rex_node.proofs.Rounds.{round_rests, round_active}
 use Rattle.rex_node.proofs.node.Node.round.Goals as goal
 

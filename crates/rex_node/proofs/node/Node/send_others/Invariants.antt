@@ -1,9 +1,5 @@
-use Rattle.std.proofs.Common.{◌≡◌, ◌++◌, map, List}
-use Rattle.rex_cluster.specs.Node.{Message}
-use Rattle.rex_cluster.specs.Calls.{others}
-use Rattle.rex_cluster.specs.Values.{Value}
-use Rattle.rex_log.specs.Messages.{content_in, message_in}
-use Rattle.rex_report.specs.declared.effect.Effect.{Effect}
+use Rattle.rex_node.proofs.Common.{◌≡◌, ◌++◌, List, Message, others, Value, content_in, message_in, Effect}
+use Rattle.std.proofs.Common.{map}
 use Rattle.rex_node.proofs.node.Node.send_others.Given as goal
 
 pub record Sent (sends had more : List (Message Value)) (effects told : List Effect) : Type 0 where

@@ -1,5 +1,5 @@
-use Rattle.std.proofs.Common.{◌≡◌, IfOk, sym, ap, subst, ◌∙◌}
-use Rattle.rex_node.specs.Telling.{last_held}
+use Rattle.rex_node.proofs.Common.{◌≡◌, sym, ap, subst, ◌∙◌, last_held}
+use Rattle.std.proofs.Common.{IfOk}
 use Rattle.rex_node.proofs.Admitted.{stamp_held}
 use Rattle.rex_node.proofs.Knows.{held_are}
 use Rattle.rex_node.proofs.node.Node.stamp.Goals as goal

@@ -1,4 +1,4 @@
-use Rattle.std.proofs.Common.{refl}
+use Rattle.rex_node.proofs.Common.{refl}
 use Rattle.rex_durable.specs.declared.records.Rec.TheVariants as kept
 use Rattle.rex_node.proofs.Candidates.{stand_down, stand_ends, stand_free, stand_kept, stand_runs, stand_short, stand_stuck, stand_turns}
 use Rattle.rex_node.proofs.Promises.{appends_at, on_err_anyway}

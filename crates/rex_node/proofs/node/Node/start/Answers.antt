@@ -1,6 +1,5 @@
-use Rattle.std.proofs.Common.{subst, ◌∙◌}
+use Rattle.rex_node.proofs.Common.{subst, ◌∙◌, IsRecalled, IsRestartFault, decoded_last}
 use Rattle.std.proofs.lemmas.Result.{err_from_is_err_and}
-use Rattle.rex_node.specs.Restarting.{IsRecalled, IsRestartFault, decoded_last}
 use Rattle.rex_node.proofs.Deltas.{known_good}
 use Rattle.rex_node.proofs.Reading.{only_memory}
 use Rattle.rex_node.proofs.Restarts.{came_up, is_node, last_decoded}

@@ -1,8 +1,7 @@
-use Rattle.std.proofs.Common.{[], ◌∷◌, ap, sym, ◌∙◌}
+use Rattle.rex_node.proofs.Common.{[], ◌∷◌, ap, sym, ◌∙◌, whole}
 use Rattle.rex_cluster.specs.Lanes.{effect_of}
 use Rattle.rex_node.proofs.Executing.{answer_of_node, submit_leads, submit_stays}
 use Rattle.rex_node.proofs.node.Node.submit.Goals as goal
-use Rattle.rex_node.specs.Parts.{whole}
 
 pub returns-clause-told : goal.returns-clause-told
 returns-clause-told g c =

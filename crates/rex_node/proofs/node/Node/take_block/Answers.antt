@@ -1,10 +1,8 @@
-use Rattle.std.proofs.Common.{ap, sym, subst, ◌∙◌}
+use Rattle.rex_node.proofs.Common.{ap, sym, subst, ◌∙◌, run, whole}
 use Rattle.std.specs.Prelude.{◌≡◌, Some}
-use Rattle.rex_state.specs.Machine.{run}
 use Rattle.rex_node.proofs.Blocks.{block_leads, block_stays}
 use Rattle.rex_node.proofs.Executing.{live_state_of}
 use Rattle.rex_node.proofs.node.Node.take_block.Goals as goal
-use Rattle.rex_node.specs.Parts.{whole}
 
 pub take_block-requires-clause-runs : goal.take_block-requires-clause-runs
 take_block-requires-clause-runs g c =

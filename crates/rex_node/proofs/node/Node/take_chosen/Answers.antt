@@ -1,10 +1,9 @@
-use Rattle.std.proofs.Common.{ap}
+use Rattle.rex_node.proofs.Common.{ap, whole}
 use Rattle.rex_durable.specs.declared.records.Rec.TheVariants as kept
 use Rattle.rex_node.proofs.Promises.{appends_at, on_err_anyway}
 use Rattle.rex_node.proofs.Choices.{chosen_down, chosen_fits, chosen_stuck, chosen_on}
 use Rattle.rex_node.proofs.Deltas.{last_spelled}
 use Rattle.rex_node.proofs.node.Node.take_chosen.Goals as goal
-use Rattle.rex_node.specs.Parts.{whole}
 
 pub returns-in-Down-clause-ends : goal.returns-in-Down-clause-ends
 returns-in-Down-clause-ends g c =

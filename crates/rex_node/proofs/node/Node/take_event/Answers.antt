@@ -1,8 +1,6 @@
-use Rattle.std.proofs.Common.{ap, ◌+◌, ◌<◌, sym, subst, ◌∙◌}
-use Rattle.rex_state.specs.Machine.{lane_of}
+use Rattle.rex_node.proofs.Common.{ap, ◌+◌, ◌<◌, sym, subst, ◌∙◌, lane_of, whole}
 use Rattle.rex_node.proofs.Executing.{live_state_of, given_of_node, given_leads, given_stays}
 use Rattle.rex_node.proofs.node.Node.take_event.Goals as goal
-use Rattle.rex_node.specs.Parts.{whole}
 
 pub take_event-requires-clause-count : goal.take_event-requires-clause-count
 take_event-requires-clause-count g c =

@@ -1,12 +1,7 @@
-use Rattle.std.proofs.Common.{nat_lt, ◌∷◌, is_some, inl, length, ap, subst, ◌∙◌, arith}
+use Rattle.rex_node.proofs.Common.{◌∷◌, inl, length, ap, subst, ◌∙◌, arith, leaving, role_of, whole, Tells, On, Down, forgetting, followed, fallen_moved}
+use Rattle.std.proofs.Common.{nat_lt, is_some}
 use Rattle.rex_durable.specs.declared.records.Rec.TheVariants as kept
-use Rattle.rex_node.specs.Parts.{leaving, role_of, whole}
-use Rattle.rex_node.specs.Going.{Tells}
-use Rattle.rex_node.specs.declared.going.Going.TheVariants.{On, Down}
-use Rattle.rex_paxos.specs.Acceptor.{forgetting}
 use Rattle.rex_report.specs.declared.effect.Effect.TheVariants as effect
-use Rattle.rex_cluster.specs.Calls.{followed}
-use Rattle.rex_node.specs.Telling.{fallen_moved}
 use Rattle.rex_node.proofs.Knows.{many_known}
 use Rattle.rex_node.proofs.Moving.{followed_same, moved_down, moved_on, moved_stuck}
 use Rattle.rex_node.proofs.Promises.{appends_at, on_err_anyway}

@@ -1,9 +1,5 @@
-use Rattle.std.proofs.Common.{◌≡◌, [], ◌∷◌, Some, ap, sym, subst, ◌∙◌}
-use Rattle.std.proofs.lemmas.Bool.{ne_eqb}
-use Rattle.rex_report.specs.declared.effect.Effect.TheVariants.{Replayed}
-use Rattle.rex_node.specs.Calls.{Does}
-use Rattle.rex_node.specs.Parts.{StaysNode, reached_at, whole}
-use Rattle.rex_cluster.specs.Calls.{replay}
+use Rattle.rex_node.proofs.Common.{◌≡◌, [], ◌∷◌, Some, ap, sym, subst, ◌∙◌, ne_eqb, Replayed, Does, reached_at, whole, replay}
+use Rattle.rex_node.specs.Parts.{StaysNode}
 use Rattle.rex_node.proofs.ReplayLemmas.{replay_does, replay_stays}
 use Rattle.rex_node.proofs.node.Node.take_replayed.Given as given
 use Rattle.rex_node.proofs.node.Node.take_replayed.Goals as goal

@@ -1,6 +1,4 @@
-use Rattle.std.proofs.Common.{sym, subst}
-use Rattle.rex_state.specs.Sound.{IsSound}
-use Rattle.rex_snapshot.specs.Spelling.{IsLimited}
+use Rattle.rex_node.proofs.Common.{sym, subst, IsSound, IsLimited}
 use Rattle.rex_node.proofs.Bases.{start_limited, start_sound}
 use Rattle.rex_node.proofs.node.Node.tell_base.Goals as goal
 

@@ -1,5 +1,4 @@
-use Rattle.std.proofs.Common.{◌≡◌, ◌+◌, ◌<◌, ◌≤◌, length, min, refl, arith}
-use Rattle.rex_node.specs.Parts.{knows}
+use Rattle.rex_node.proofs.Common.{◌≡◌, ◌+◌, ◌<◌, ◌≤◌, length, min, refl, arith, knows}
 use Rattle.rex_node.proofs.Asked.{told_more, told_end, told_first, told_none}
 use Rattle.rex_node.proofs.node.Node.tell_chosen.Goals as goal
 

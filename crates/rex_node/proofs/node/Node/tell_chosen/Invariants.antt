@@ -1,4 +1,4 @@
-use Rattle.rex_node.specs.Parts.{knows}
+use Rattle.rex_node.proofs.Common.{knows}
 use Rattle.rex_node.proofs.Asked.{HasTold}
 use Rattle.rex_node.proofs.node.Node.tell_chosen.Given as goal
 

@@ -1,9 +1,5 @@
-use Rattle.std.proofs.Common.{◌≡◌, ◌+◌, ◌-◌, Some, sym, ap, subst, ◌∙◌, arith}
-use Rattle.std.specs.Prelude.{OnOk, slice_get}
-use Rattle.rex_transfer.specs.Window.{Looks}
+use Rattle.rex_node.proofs.Common.{◌≡◌, ◌+◌, ◌-◌, Some, sym, ap, subst, ◌∙◌, arith, OnOk, slice_get, Looks, count_of, Sends, answering}
 use Rattle.rex_msg.specs.declared.message.Content.TheVariants as sent
-use Rattle.rex_node.specs.Parts.{count_of}
-use Rattle.rex_node.specs.Going.{Sends, answering}
 use Rattle.rex_node.proofs.Knows.{many_known, must_hold, value_at}
 use Rattle.rex_node.proofs.node.Node.tell_one.Goals as goal
 

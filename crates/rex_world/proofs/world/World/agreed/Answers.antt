@@ -1,4 +1,4 @@
-use Rattle.std.proofs.Common.{◌∙◌}
+use Rattle.rex_world.proofs.Common.{◌∙◌}
 use Rattle.rex_world.proofs.world.World.agreed.Goals as goal
 
 pub returns : goal.returns

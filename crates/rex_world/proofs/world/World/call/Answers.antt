@@ -1,6 +1,4 @@
-use Rattle.std.proofs.Common.{ap, length, refl, subst, ◌∙◌}
-use Rattle.rex_world.specs.Calls.{ComesTo, call_at}
-use Rattle.rex_world.specs.World.{world_of}
+use Rattle.rex_world.proofs.Common.{ap, length, refl, subst, ◌∙◌, ComesTo, call_at, world_of}
 use Rattle.rex_world.proofs.Coming.{served_row}
 use Rattle.rex_world.proofs.Serving.{call_come, call_kept, call_released, call_stays, came, can_be_told, may_serve, own_old, records_old, room_old}
 use Rattle.rex_world.proofs.Stepping.{on_ok}

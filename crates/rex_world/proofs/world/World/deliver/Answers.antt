@@ -1,4 +1,4 @@
-use Rattle.std.proofs.Common.{refl, subst}
+use Rattle.rex_world.proofs.Common.{refl, subst}
 use Rattle.rex_world.specs.Finding.{IsFound}
 use Rattle.rex_world.proofs.Handed.{missed}
 use Rattle.rex_world.proofs.world.World.deliver.Goals as goal

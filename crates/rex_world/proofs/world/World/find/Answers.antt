@@ -1,10 +1,5 @@
-use Rattle.std.proofs.Common.{◌≡◌, ℕ, zero, suc, List, [], Some, ap, subst, sym, ◌∙◌}
-use Rattle.std.specs.List.{All}
-use Rattle.std.specs.Option.{option_copied}
-use Rattle.std.proofs.lemmas.List.Elements.{All-get_or}
-use Rattle.std.proofs.lemmas.Option.{slice_get_within, get_or_from_slice_get}
+use Rattle.rex_world.proofs.Common.{◌≡◌, ℕ, zero, suc, List, [], Some, ap, subst, sym, ◌∙◌, All, option_copied, All-get_or, slice_get_within, get_or_from_slice_get, IsSpelled}
 use Rattle.rex_net.specs.Net.{message_at}
-use Rattle.rex_world.specs.World.{IsSpelled}
 use Rattle.rex_world.proofs.world.World.find.Goals as goal
 
 -- what is there under a number is spelled

@@ -1,6 +1,4 @@
-use Rattle.std.proofs.Common.{◌+◌, drop, sym, ap, ◌∙◌, arith}
-use Rattle.rex_cluster.specs.World.{after_lines}
-use Rattle.rex_world.specs.World.{world_of}
+use Rattle.rex_world.proofs.Common.{◌+◌, drop, sym, ap, ◌∙◌, arith, after_lines, world_of}
 use Rattle.rex_world.proofs.Runs.{done_next, drop_end, drop_next, still_of}
 use Rattle.rex_world.proofs.Traces.{follow_next}
 use Rattle.rex_world.proofs.Releasing.{releases_more, releases_all}

@@ -1,8 +1,4 @@
-use Rattle.std.proofs.Common.{◌≡◌, ◌+◌, ◌++◌, drop}
-use Rattle.rex_cluster.specs.World.{after_lines}
-use Rattle.rex_world.specs.Kept.{IsOf, IsRunning}
-use Rattle.rex_world.specs.Summaries.{releases_from}
-use Rattle.rex_world.specs.World.{world_of}
+use Rattle.rex_world.proofs.Common.{◌≡◌, ◌+◌, ◌++◌, drop, after_lines, IsOf, IsRunning, releases_from, world_of}
 use Rattle.rex_world.proofs.world.World.follow.Given as goal
 
 -- the other lines lead from here where all lead from the first world, and report the releases that are left

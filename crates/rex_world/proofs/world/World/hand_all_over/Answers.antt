@@ -1,6 +1,4 @@
-use Rattle.std.proofs.Common.{◌≡◌, ◌<◌, true, length, take, refl, ◌∙◌, subst, arith}
-use Rattle.std.specs.List.{list_all}
-use Rattle.rex_world.specs.World.{nodes_of}
+use Rattle.rex_world.proofs.Common.{◌≡◌, ◌<◌, true, length, take, refl, ◌∙◌, subst, arith, list_all, nodes_of}
 use Rattle.rex_world.proofs.Handing.{handed_first, handed_next, flushed_all, over_as, same_both}
 use Rattle.rex_world.proofs.world.World.hand_all_over.Goals as goal
 

@@ -1,6 +1,4 @@
-use Rattle.std.proofs.Common.{◌≡◌}
-use Rattle.rex_world.specs.World.{nodes_of, world_of}
-use Rattle.rex_world.specs.Kept.{IsRunning, IsSame}
+use Rattle.rex_world.proofs.Common.{◌≡◌, nodes_of, world_of, IsRunning, IsSame}
 use Rattle.rex_world.proofs.Handing.{HasHanded}
 use Rattle.rex_world.proofs.world.World.hand_all_over.Given as goal
 

@@ -1,5 +1,4 @@
-use Rattle.std.proofs.Common.{◌∙◌, ◌++◌, [], ◌∷◌, ap, refl}
-use Rattle.rex_report.specs.declared.effect.Effect.TheVariants.{Delivered}
+use Rattle.rex_world.proofs.Common.{◌∙◌, ◌++◌, [], ◌∷◌, ap, refl, Delivered}
 use Rattle.rex_world.proofs.Stepping.{on_ok}
 use Rattle.rex_world.proofs.Handed.{hand_came, hand_node, marked_running, sent_handed, sent_on, sent_within}
 use Rattle.rex_world.proofs.Sending.{kind_alike}

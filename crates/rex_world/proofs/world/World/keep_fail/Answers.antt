@@ -1,6 +1,4 @@
-use Rattle.std.specs.Vec.{with_item}
-use Rattle.std.proofs.Common.{◌-◌, ap}
-use Rattle.std.specs.Prelude.{slice_set}
+use Rattle.rex_world.proofs.Common.{with_item, ◌-◌, ap, slice_set}
 use Rattle.rex_world.proofs.Arming.{arming_running, arming_world}
 use Rattle.rex_world.proofs.world.World.keep_fail.Goals as goal
 

@@ -1,4 +1,4 @@
-use Rattle.std.proofs.Common.{◌≤◌, length, sym, subst}
+use Rattle.rex_world.proofs.Common.{◌≤◌, length, sym, subst}
 use Rattle.rex_world.proofs.Agreeing.{agreed_few}
 use Rattle.rex_world.proofs.world.World.push_trace.Goals as goal
 

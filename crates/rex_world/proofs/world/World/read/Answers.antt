@@ -1,4 +1,4 @@
-use Rattle.std.proofs.Common.{refl}
+use Rattle.rex_world.proofs.Common.{refl}
 use Rattle.rex_world.proofs.Answering.{read_came}
 use Rattle.rex_world.proofs.Placed.{here_so, member_so}
 use Rattle.rex_world.proofs.world.World.read.Goals as goal

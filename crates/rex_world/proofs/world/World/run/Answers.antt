@@ -1,11 +1,4 @@
-use Rattle.std.proofs.Common.{◌+◌, ◌++◌, [], drop, length, sym, ap, subst, ◌∙◌, arith, append-nil}
-use Rattle.std.proofs.lemmas.Result.{on_ok_weaker}
-use Rattle.rex_traits.specs.Growth.{GrowsByFront}
-use Rattle.rex_cluster.specs.World.{after_lines, row}
-use Rattle.rex_world.specs.Kept.{IsRunning, IsSame}
-use Rattle.rex_world.specs.Report.{effects_text, ends_text, report_from}
-use Rattle.rex_world.specs.World.{nodes_of, world_of}
-use Rattle.rex_world.specs.Writing.{IsWritten}
+use Rattle.rex_world.proofs.Common.{◌+◌, ◌++◌, [], drop, length, sym, ap, subst, ◌∙◌, arith, append-nil, on_ok_weaker, GrowsByFront, after_lines, row, IsRunning, IsSame, effects_text, ends_text, report_from, nodes_of, world_of, IsWritten}
 use Rattle.rex_world.proofs.Runs.{drop_next, drop_end, next_of, report_next, still_of, done_next}
 use Rattle.rex_world.proofs.Written.{front_next, front_none, written_next, written_last}
 use Rattle.rex_world.proofs.Handing.{same_both}

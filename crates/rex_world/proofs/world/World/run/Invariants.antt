@@ -1,9 +1,4 @@
-use Rattle.std.proofs.Common.{◌≡◌, ◌+◌, ◌≤◌, drop}
-use Rattle.rex_cluster.specs.World.{after_lines}
-use Rattle.rex_world.specs.Kept.{IsOf, IsRunning, IsSame}
-use Rattle.rex_world.specs.Report.{report_from}
-use Rattle.rex_world.specs.World.{world_of}
-use Rattle.rex_world.specs.Writing.{IsWritten}
+use Rattle.rex_world.proofs.Common.{◌≡◌, ◌+◌, ◌≤◌, drop, after_lines, IsOf, IsRunning, IsSame, report_from, world_of, IsWritten}
 use Rattle.rex_world.proofs.world.World.run.Given as goal
 
 -- what was written and what waits, with the report of the other lines, are the whole report, and the other lines lead from here where all lead from the first world

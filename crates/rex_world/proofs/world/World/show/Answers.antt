@@ -1,8 +1,5 @@
-use Rattle.std.proofs.Common.{ap, length, subst, sym, ◌∙◌}
+use Rattle.rex_world.proofs.Common.{ap, length, subst, sym, ◌∙◌, seen_by_releases, stamp_at, AreReleased, here_at}
 use Rattle.std.proofs.lemmas.List.{with_items_is}
-use Rattle.rex_cluster.specs.Reading.{seen_by_releases, stamp_at}
-use Rattle.rex_world.specs.Calls.{AreReleased}
-use Rattle.rex_world.specs.Members.{here_at}
 use Rattle.rex_world.proofs.Placed.{here_so, member_so}
 use Rattle.rex_world.proofs.Shown.{releases_long}
 use Rattle.rex_world.proofs.world.World.show.Goals as goal

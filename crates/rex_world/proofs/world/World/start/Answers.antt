@@ -1,7 +1,4 @@
-use Rattle.std.proofs.Common.{ap, length, refl, subst, ◌∙◌}
-use Rattle.rex_cluster.specs.Values.{service_of}
-use Rattle.rex_world.specs.Calls.{ComesTo}
-use Rattle.rex_world.specs.World.{world_of}
+use Rattle.rex_world.proofs.Common.{ap, length, refl, subst, ◌∙◌, service_of, ComesTo, world_of}
 use Rattle.rex_world.proofs.Coming.{started_row}
 use Rattle.rex_world.proofs.Serving.{came, can_be_told, none_told, own_old, records_old, still_own, start_come, start_kept, start_released, starts_old}
 use Rattle.rex_world.proofs.Stepping.{on_ok}

@@ -1,5 +1,5 @@
+use Rattle.rex_world.proofs.Common.{IsRunning}
 use Rattle.std.proofs.Common.{rules}
-use Rattle.rex_world.specs.Kept.{IsRunning}
 use Rattle.rex_world.proofs.Arming.{counted_running}
 use Rattle.rex_world.proofs.world.World.step.Goals as goal
 

@@ -1,10 +1,5 @@
-use Rattle.std.specs.Vec.{with_item}
-use Rattle.std.proofs.Common.{◌≡◌, ◌-◌, refl, sym, subst, true, ◌∙◌}
+use Rattle.rex_world.proofs.Common.{with_item, ◌≡◌, ◌-◌, refl, sym, subst, true, ◌∙◌, run, live_state, World, IsRunning}
 use Rattle.std.specs.Prelude.{Some}
-use Rattle.rex_state.specs.Machine.{run}
-use Rattle.rex_cluster.specs.Lanes.{live_state}
-use Rattle.rex_world.specs.declared.world.World.{World}
-use Rattle.rex_world.specs.Kept.{IsRunning}
 use Rattle.rex_world.proofs.Blocks.{block_refused, block_running, block_unchanged, block_world}
 use Rattle.rex_world.proofs.Given.{given_same}
 use Rattle.rex_world.proofs.Serving.{here_old, own_old, still_own}

@@ -1,9 +1,4 @@
-use Rattle.std.specs.Vec.{with_item}
-use Rattle.std.proofs.Common.{◌≡◌, ◌-◌, ◌<◌, ◌+◌, ◌^◌, refl, sym, subst, true, ◌∙◌}
-use Rattle.rex_state.specs.Machine.{lane_of}
-use Rattle.rex_cluster.specs.Lanes.{live_state}
-use Rattle.rex_world.specs.declared.world.World.{World}
-use Rattle.rex_world.specs.Kept.{IsRunning}
+use Rattle.rex_world.proofs.Common.{with_item, ◌≡◌, ◌-◌, ◌<◌, ◌+◌, ◌^◌, refl, sym, subst, true, ◌∙◌, lane_of, live_state, World, IsRunning}
 use Rattle.rex_world.proofs.Given.{given_refused, given_same, given_told, given_unchanged, given_world, taken_running}
 use Rattle.rex_world.proofs.Serving.{here_old, own_old, still_own}
 use Rattle.rex_world.proofs.Working.{room}

@@ -1,6 +1,4 @@
-use Rattle.std.proofs.Common.{refl, subst, sym}
-use Rattle.std.specs.List.{All}
-use Rattle.rex_schedule.specs.Fits.{RequestFits}
+use Rattle.rex_world.proofs.Common.{refl, subst, sym, All, RequestFits}
 use Rattle.rex_world.proofs.Beginning.{few_nodes, new_running}
 use Rattle.rex_world.proofs.world.World.with_keepers.Goals as goal
 
