@@ -1,5 +1,5 @@
 -- A node that goes on adopts the value that was reported for the next instance; alone it knows it at once.
-use Rattle.rex_node.proofs.Common.{◌≡◌, ℕ, zero, suc, ◌+◌, ◌-◌, ◌*◌, ◌^◌, ◌<◌, ◌≤◌, Bool, true, false, cond, not, ◌&&◌, List, [], ◌∷◌, ◌++◌, length, inl, inr, Option, Some, None, refl, sym, ap, subst, ◌∙◌, arith, map, is_some, is_none, nat_lt, option_map, IfSome, IsSome, All, and_parts, le-ltb, lt-ltb, same_Some, most_nodes, Kept, IsValue, accepting, AreCounted, ProposerValue, is_candidate, proposed, closed, IsBest, best_for, counted_none, counted_push, Declarations, IsService, IsChecked, StateValue, Answer, Effect, Rec, Proposal, proposal_of, known, Failure, Lead, Role, Service, After, Leading, is_majority, LeadFits, RoleFits, length_push, Call, append, best, choose, decide, lead, leading, learned, led, logged, others, propose, send, settle, turn, Chose, Known, Value, events_of, service_of, values_fit, CallHere, Going, On, Down, Again, Done, Draft, proposal_in, NodeValue, ActingValue, IsCutAt, IsKept, HasDecoded, HasGoneOn, IsResting, IsProposer, IsSame, IsUp, Proposes, here_of, lead_of, open_of, role_of, IsDown, armed_with, BreaksOff, Comes, Fell, IsStuck, Leads, LosesFirst, MayGoOn, RunsOn, above, so_far, FromLead, GoesRound, IsFree, accept_own, knowing, HasLearned, HasOpened, IsOwnCut, Learns, LearnsShort, Opens, OpensShort, goes_on, may_lead, opened, reported_value, settling}
+use Rattle.rex_node.proofs.Common.{◌≡◌, ℕ, zero, suc, ◌+◌, ◌-◌, ◌*◌, ◌^◌, ◌<◌, ◌≤◌, Bool, true, false, cond, not, ◌&&◌, List, [], ◌∷◌, ◌++◌, length, inl, inr, Option, Some, None, refl, sym, ap, subst, ◌∙◌, arith, map, is_some, is_none, nat_lt, option_map, IfSome, IsSome, All, and_parts, le-ltb, lt-ltb, same_Some, most_nodes, Kept, IsValue, accepting, AreCounted, ProposerValue, is_candidate, proposed, closed, IsBest, best_for, counted_none, counted_push, Declarations, IsService, IsChecked, StateValue, Answer, Effect, Rec, Proposal, proposal_of, known, Failure, Lead, Role, Service, After, Leading, is_majority, LeadFits, RoleFits, length_push, Call, append, best, choose, decide, lead, leading, learned, led, logged, others, propose, send, settle, turn, Chose, Known, Value, events_of, service_of, values_fit, CallHere, Going, On, Down, Again, Done, Draft, proposal_in, NodeValue, ActingValue, IsCutAt, IsKept, HasDecoded, HasGoneOn, IsResting, IsProposer, IsSame, IsUp, Proposes, here_of, lead_of, open_of, role_of, IsDown, armed_with, BreaksOff, Comes, Fell, IsStuck, Leads, LosesFirst, MayGoOn, RunsOn, above, so_far, FromLead, GoesRound, IsFree, accept_own, knowing, HasLearned, HasOpened, IsOwnCut, MayPropose, Learns, LearnsShort, Opens, OpensShort, goes_on, may_lead, opened, reported_value, settling}
 use Rattle.std.proofs.lemmas.List.Elements.{All-contains, Contains-append_right}
 use Rattle.rex_ballot.specs.Ballot as ballots
 use Rattle.rex_paxos.specs.Counting as counting
@@ -146,19 +146,23 @@ module _ {K : Type 0} {records : K → List (List ℕ)} (gives : K → List ℕ 
       ∙ ap (λ n. counting.is_majority n (length c.p.promised)) (sym proposes.nodes_are) ∙ c.many
 
   -- what it asks for of its proposal
-  pub chosen_there : ballots.IsInstance i
+  chosen_there : ballots.IsInstance i
   chosen_there =
       let b = subst (BestOk i (map proposal_in c.p.reported)) best_here (best_ok i _) in
       fits_instance (subst ranges.IsInstance b.1 (lead_fits.reported (proposal_in c.q) b.0).instance)
 
-  pub chosen_short : IsValue v
+  chosen_short : IsValue v
   chosen_short = subst IsValue c.v_is (taken_in (λ q. IsValue q.value) i _ c.q_is proposes.short)
 
-  pub chosen_leads : IsSome x.proposer
+  chosen_leads : IsSome x.proposer
   chosen_leads = subst (λ o. IsSome o) (sym c.p_is) refl
 
-  pub chosen_cut : IsOwnCut service x v
+  chosen_cut : IsOwnCut service x v
   chosen_cut = subst (λ w. IfSome w (λ a. IsCutAt service x.known a v)) (sym c.idle) tt
+
+  -- it may propose the value
+  pub chosen_may : faults x.keeper < 2 ^ 64 - 1 → MayPropose records faults service past x i v
+  chosen_may count = record { kept = kept_so; up = up; leads = chosen_leads; next = next; there = chosen_there; short = chosen_short; cut = chosen_cut; count = count }
 
   -- the model's call proposes the same
   settle_is : (before : Draft) (f : Option Failure) → settle turns x.nodes sv x.id (armed_with f (so_far records service past x before)) ≡ propose x.nodes x.id (effect.Adopts x.id i (length (events_of v))) (armed_with f (so_far records service past x before)) l i v (settle (turns - 1) x.nodes sv x.id)
@@ -301,23 +305,27 @@ module _ {K : Type 0} {records : K → List (List ℕ)} (gives : K → List ℕ 
           (bridges.majority_is own_counted ∙ one)
           ∙ decide_led x.nodes sv x.id d l role_with (Some (proposal_of c.p.ballot i v)) (x.id ∷ []) i v (settles (turns - 2))
 
-      pub alone_kept : IsKept records service past y
+      alone_kept : IsKept records service past y
       alone_kept = comes_y.1
 
-      pub alone_up : y.up ≡ true
+      alone_up : y.up ≡ true
       alone_up = comes_y.2
 
-      pub alone_leads : IsSome y.proposer
+      alone_leads : IsSome y.proposer
       alone_leads = subst (λ n. IsSome n.proposer) (sym y_is) refl
 
-      pub alone_next : i ≡ length y.known + 1
+      alone_next : i ≡ length y.known + 1
       alone_next = subst (λ n. i ≡ length n.known + 1) (sym y_is) next
 
-      pub alone_cut : IsOwnCut service y v
+      alone_cut : IsOwnCut service y v
       alone_cut = subst (λ n. IsOwnCut service n v) (sym y_is) chosen_cut
 
-      pub alone_count : faults x.keeper < 2 ^ 64 - 1 → faults y.keeper < 2 ^ 64 - 1
+      alone_count : faults x.keeper < 2 ^ 64 - 1 → faults y.keeper < 2 ^ 64 - 1
       alone_count h = subst (λ n. n < 2 ^ 64 - 1) (sym leads_y.counted) h
+
+      -- it may make the value known
+      pub alone_may : faults x.keeper < 2 ^ 64 - 1 → MayPropose records faults service past y i v
+      alone_may count = record { kept = alone_kept; up = alone_up; leads = alone_leads; next = alone_next; there = chosen_there; short = chosen_short; cut = alone_cut; count = alone_count count }
 
       -- what it knows then runs on
       pub alone_fits : RunsOn service (settles turns) (so_far records service past x before) → values_fit service (y.known ++ v ∷ []) ≡ true

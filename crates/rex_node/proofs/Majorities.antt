@@ -1,5 +1,5 @@
 -- A majority accepted the open proposal of a node that leads: it knows the value, and goes on.
-use Rattle.rex_node.proofs.Common.{◌≡◌, ℕ, suc, ◌+◌, ◌-◌, ◌*◌, ◌^◌, ◌<◌, ◌≤◌, Bool, true, false, cond, not, ◌||◌, List, [], ◌∷◌, ◌++◌, length, inl, inr, Option, Some, None, refl, sym, ap, subst, ◌∙◌, arith, map, is_some, option_map, IfSome, IsSome, IfOk, OnErr, if◌then◌else◌, false≢true, same_Some, length-map, AllocError, most_nodes, Kept, IsValue, proposal_for, ProposerValue, acceptance_refusal, acceptance_vote, closed, is_candidate, voted, Declarations, IsService, IsChecked, StateValue, Answer, known, Known, Lead, Service, Leading, Chose, IsNodeOf, is_majority, LeadFits, RoleFits, decide, enough, learned, led, logged, on_voted, others, send, settle, Value, service_of, values_fit, CallHere, Going, On, Down, Draft, acceptance_vote_on, reports_of, proposal_in, NodeValue, ActingValue, HasDecoded, HasGoneOn, IsActing, IsCutAt, IsKept, IsResting, IsProposer, IsSame, IsUp, OpenIsCut, Proposes, here_of, lead_of, open_of, role_of, IsDown, BreaksOff, Comes, Ends, IsStuck, Leads, LosesFirst, MayGoOn, RunsOn, above, so_far, IsFree, IsOwnCut, Learns, LearnsShort, knowing, replayed_to, settling}
+use Rattle.rex_node.proofs.Common.{◌≡◌, ℕ, suc, ◌+◌, ◌-◌, ◌*◌, ◌^◌, ◌<◌, ◌≤◌, Bool, true, false, cond, not, ◌||◌, List, [], ◌∷◌, ◌++◌, length, inl, inr, Option, Some, None, refl, sym, ap, subst, ◌∙◌, arith, map, is_some, option_map, IfSome, IsSome, IfOk, OnErr, if◌then◌else◌, false≢true, same_Some, length-map, AllocError, most_nodes, Kept, IsValue, proposal_for, ProposerValue, acceptance_refusal, acceptance_vote, closed, is_candidate, voted, Declarations, IsService, IsChecked, StateValue, Answer, known, Known, Lead, Service, Leading, Chose, IsNodeOf, is_majority, LeadFits, RoleFits, decide, enough, learned, led, logged, on_voted, others, send, settle, Value, service_of, values_fit, CallHere, Going, On, Down, Draft, acceptance_vote_on, reports_of, proposal_in, NodeValue, ActingValue, HasDecoded, HasGoneOn, IsActing, IsCutAt, IsKept, IsResting, IsProposer, IsSame, IsUp, OpenIsCut, Proposes, here_of, lead_of, open_of, role_of, IsDown, BreaksOff, Comes, Ends, IsStuck, Leads, LosesFirst, MayGoOn, RunsOn, above, so_far, IsFree, IsOwnCut, MayPropose, Learns, LearnsShort, knowing, replayed_to, settling}
 use Rattle.std.specs.Prelude.{Result, Ok, Err}
 use Rattle.rex_ballot.specs.Ballot as ballots
 use Rattle.rex_paxos.specs.declared.answers.Vote.TheVariants as vote
@@ -69,27 +69,31 @@ module _ {K : Type 0} {records : K → List (List ℕ)} (gives : K → List ℕ 
   q_instance : c.q.instance ≡ i
   q_instance = found_instance _ c.q_is
 
-  pub choose_next : i ≡ length x.known + 1
+  choose_next : i ≡ length x.known + 1
   choose_next = let e : c.q.instance ≡ suc (length x.known) = q_place.0 in omega (arith, e, q_instance)
 
-  pub choose_there : ballots.IsInstance i
+  choose_there : ballots.IsInstance i
   choose_there = subst ballots.IsInstance q_instance (fits_instance q_place.1)
 
-  pub choose_short : IsValue v
+  choose_short : IsValue v
   choose_short = subst IsValue c.v_is (found_all (λ q. IsValue q.value) i _ u.short c.q_is)
 
-  pub choose_leads : IsSome x.proposer
+  choose_leads : IsSome x.proposer
   choose_leads = subst (λ o. IsSome o) (sym c.p_is) refl
 
-  pub choose_kept : IsKept records service past x
+  choose_kept : IsKept records service past x
   choose_kept = record { id = node.id; few = node.few; up = node.up; reached = node.reached; decoded = node.decoded }
 
   cut_of : (w : Option ActingValue) → IsActing service x.known x.acceptor (Some c.p) w → IfSome w (λ (a : ActingValue). IsCutAt service x.known a v)
   cut_of None h = tt
   cut_of (Some a) h = subst (IsCutAt service x.known a) c.v_is (subst (OpenIsCut service x.known a) proposal_is h.open_is_cut)
 
-  pub choose_cut : IsOwnCut service x v
+  choose_cut : IsOwnCut service x v
   choose_cut = cut_of x.acting (subst (λ o. IsActing service x.known x.acceptor o x.acting) c.p_is u.acting)
+
+  -- it may make the value known
+  pub choose_may : faults x.keeper < 2 ^ 64 - 1 → MayPropose records faults service past x i v
+  choose_may count = record { kept = choose_kept; up = up; leads = choose_leads; next = choose_next; there = choose_there; short = choose_short; cut = choose_cut; count = count }
 
   -- the model's call decides it
   abbrev sv : Service Value StateValue

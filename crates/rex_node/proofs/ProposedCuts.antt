@@ -1,5 +1,5 @@
 -- How a node ends a call in which it has proposed a cut.
-use Rattle.rex_node.proofs.Common.{◌≡◌, ℕ, ◌+◌, ◌*◌, ◌<◌, ◌≤◌, Bool, true, false, not, List, [], ◌∷◌, length, Result, Option, Some, None, Ok, Err, inl, inr, refl, sym, ap, subst, ◌∙◌, IfOk, OnErr, is_some, option_map, false≢true, most_nodes, AcceptorValue, accepting, ProposerValue, is_candidate, proposed, closed, Declarations, Effect, Answer, StateValue, proposal_of, is_majority, Service, Lead, Role, leading, led, propose, decide, settle, enough, Value, service_of, CallHere, Going, On, Down, Draft, BreaksOff, Comes, Ends, Fell, IsStuck, LeadsOn, LosesFirst, so_far, ActingValue, NodeValue, HasDecoded, HasGoneOn, IsKept, IsResting, IsProposer, IsSame, Proposes, here_of, lead_of, role_of, IsDown, HasLearned, HasOpened, Learns, LearnsShort, Opens, OpensShort, accept_own, settling, IsIdle, ProposesCut, ProposesCutShort}
+use Rattle.rex_node.proofs.Common.{◌≡◌, ℕ, ◌+◌, ◌*◌, ◌<◌, ◌≤◌, Bool, true, false, not, List, [], ◌∷◌, length, Result, Option, Some, None, Ok, Err, inl, inr, refl, sym, ap, subst, ◌∙◌, IfOk, OnErr, is_some, option_map, false≢true, most_nodes, AcceptorValue, accepting, ProposerValue, is_candidate, proposed, closed, Declarations, Effect, Answer, StateValue, proposal_of, is_majority, Service, Lead, Role, leading, led, propose, decide, settle, enough, Value, service_of, CallHere, Going, On, Down, Draft, BreaksOff, Comes, Ends, Fell, IsStuck, LeadsOn, LosesFirst, so_far, ActingValue, NodeValue, HasDecoded, HasGoneOn, IsKept, IsResting, IsProposer, IsSame, Proposes, here_of, lead_of, role_of, IsDown, HasLearned, HasOpened, Learns, LearnsShort, Opens, OpensShort, MayPropose, IsOwnCut, IsInstance, IsValue, IsSome, ◌-◌, ◌^◌, accept_own, settling, IsIdle, ProposesCut, ProposesCutShort}
 use Rattle.rex_paxos.specs.Counting as counting
 use Rattle.rex_report.specs.declared.effect.Effect.TheVariants as effect
 use Rattle.rex_cluster.specs.Node.Role.{Leads}
@@ -120,11 +120,24 @@ module _ {K : Type 0} (records : K → List (List ℕ)) (gives : K → List ℕ 
       appended : LeadsOn records gives faults service (λ d. propose x.nodes x.id told d l instance value (λ e. e)) (led role_open) x.keeper mid.keeper (so_far records service past x before) (so_far records service past mid between)
       appended = (lead_from x (OpensAt On) p leads h (λ d. d)).0
 
-      pub counted_between : faults mid.keeper ≡ faults x.keeper
+      counted_between : faults mid.keeper ≡ faults x.keeper
       counted_between = appended.counted
 
-      pub kept_between : IsKept records service past mid
+      kept_between : IsKept records service past mid
       kept_between = (opens_next On h leads).1
+
+      -- it may make the value known then
+      pub may_between : IsInstance instance → IsValue value → IsOwnCut service x value → faults x.keeper < 2 ^ 64 - 1 → MayPropose records faults service past mid instance value
+      may_between there short cut count = record {
+        kept = kept_between;
+        up = (opens_next On h leads).2;
+        leads = subst (λ z. IsSome z.proposer) (sym parts) (ap (λ o. is_some (option_map (λ q. proposed q instance) o)) leads);
+        next = next ∙ ap (λ z. length z.known + 1) (sym parts);
+        there = there;
+        short = short;
+        cut = subst (λ z. IsOwnCut service z value) (sym parts) cut;
+        count = subst (λ n. n < 2 ^ 64 - 1) (sym counted_between) count;
+      }
 
       proposes : Proposes x.nodes x.id x.acceptor p
       proposes = subst (IsProposer x.nodes x.id x.acceptor) leads (node.up up).proposer

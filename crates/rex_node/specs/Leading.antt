@@ -1,5 +1,7 @@
 -- What the parts of a call do by which a node that leads, or asks to, goes on.
-use Rattle.std.specs.Prelude.{◌≡◌, ℕ, ◌-◌, ◌<◌, ◌≤◌, ◌&&◌, Bool, true, false, not, List, [], ◌∷◌, ◌++◌, length, map, unwrap_or, is_some, is_none, Option, Some, None, option_map, IfSome, ◌⊎◌}
+use Rattle.std.specs.Prelude.{◌≡◌, ℕ, ◌-◌, ◌<◌, ◌≤◌, ◌&&◌, Bool, true, false, not, List, [], ◌∷◌, ◌++◌, length, map, unwrap_or, is_some, is_none, Option, Some, None, option_map, IfSome, IsSome, ◌⊎◌, ◌+◌, ◌^◌}
+use Rattle.rex_ballot.specs.Ballot.{IsInstance}
+use Rattle.rex_ballot.specs.Proposals.{IsValue}
 use Rattle.rex_ballot.specs.declared.proposal.Proposal.{Proposal as Kept}
 use Rattle.rex_paxos.specs.Reports.{best_for}
 use Rattle.rex_state.specs.Value.{StateValue}
@@ -25,7 +27,7 @@ use Rattle.rex_node.specs.declared.going.Going.TheVariants.{On, Down}
 use Rattle.rex_node.specs.declared.going.Round.{Round}
 use Rattle.rex_node.specs.declared.going.Round.TheVariants.{Again, Done}
 use Rattle.rex_node.specs.declared.step.Draft.{Draft}
-use Rattle.rex_node.specs.Parts.{NodeValue, ActingValue, IsCutAt, Stands, lead_of, reached_at}
+use Rattle.rex_node.specs.Parts.{NodeValue, ActingValue, IsCutAt, IsKept, Stands, lead_of, reached_at}
 use Rattle.rex_node.specs.Going.{BreaksOff, Comes, Ends, LosesFirst, MayGoOn}
 
 -- this holds of what the node leads with, where it does
@@ -37,6 +39,17 @@ abbrev pub IsOwnCut : {K : Type 0} → Declarations → NodeValue K → Value �
 IsOwnCut service x value = IfSome x.acting (λ (a : ActingValue). IsCutAt service x.known a value)
 
 -- ---- proposing
+
+-- what proposing a value asks of a node: it is up and leads, the instance is its next one, and the value is one that it may propose
+pub record MayPropose {K : Type 0} (records : K → List (List ℕ)) (faults : K → ℕ) (service : Declarations) (past : List Value) (x : NodeValue K) (instance : ℕ) (value : Value) : Type 0 where
+  pub kept : IsKept records service past x
+  pub up : x.up ≡ true
+  pub leads : IsSome x.proposer
+  pub next : instance ≡ length x.known + 1
+  pub there : IsInstance instance
+  pub short : IsValue value
+  pub cut : IsOwnCut service x value
+  pub count : faults x.keeper < 2 ^ 64 - 1
 
 -- the call proposes the value, with this told, and the rest of it begins with the proposal open
 abbrev pub Opens : {K : Type 0} → (K → List (List ℕ)) → (K → List ℕ → Answer → K → Type 0) → (K → ℕ) → Declarations → List Value → Effect → ℕ → Value → (old new : NodeValue K) → (before after : Draft) → Going → Type 0

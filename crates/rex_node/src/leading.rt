@@ -17,7 +17,7 @@ ghost use Rattle.rex_node.specs.Going.{Ends, IsStuck, RunsOn, so_far, MayGoOn};
 ghost use Rattle.rex_msg.specs.declared.message.Content.TheVariants as sent;
 ghost use Rattle.rex_report.specs.declared.effect.Effect.TheVariants as effect;
 ghost use Rattle.rex_node.specs.Leading as spec;
-ghost use Rattle.rex_node.specs.Leading.{CanSettle, FromLead, IsOwnCut, releases_in, Opens, OpensShort, HasOpened, Learns, LearnsShort, HasLearned};
+ghost use Rattle.rex_node.specs.Leading.{CanSettle, FromLead, MayPropose, releases_in, Opens, OpensShort, HasOpened, Learns, LearnsShort, HasLearned};
 ghost use Rattle.rex_node.specs.Leading.{IsActive, IsFree, IsLonger, GoesRound, opened, knowing, goes_on};
 
 use crate::acting::Acting;
@@ -82,14 +82,7 @@ impl<K: Keeper> Node<K> {
         instance: u32,
         value: &[u8],
     ) -> Result<Going, AllocError>
-        requires kept { IsKept K.records svc.now P.past (whole P.past self.old) }
-        requires up { self.old.up ≡ true }
-        requires leads { IsSome self.old.proposer }
-        requires next { instance ≡ length (knows P.past self.old) + 1 }
-        requires there { IsInstance instance }
-        requires value { IsValue value.now }
-        requires cut { IsOwnCut svc.now (whole P.past self.old) value.now }
-        requires count { K.faults self.old.keeper < 2 ^ 64 - 1 }
+        requires may { MayPropose K.records K.faults svc.now P.past (whole P.past self.old) instance value.now }
         ensures opens { IfOk result (Opens K.records K.append_gives K.faults svc.now P.past told instance value.now (whole P.past self.old)
             (whole P.past self.new) draft.old draft.new) }
         ensures parts { IfOk result (HasOpened (whole P.past self.old) (whole P.past self.new) instance value.now) }
@@ -155,15 +148,8 @@ impl<K: Keeper> Node<K> {
         instance: u32,
         value: &[u8],
     ) -> Result<Going, AllocError>
-        requires kept { IsKept K.records svc.now P.past (whole P.past self.old) }
-        requires up { self.old.up ≡ true }
-        requires leads { IsSome self.old.proposer }
-        requires next { instance ≡ length (knows P.past self.old) + 1 }
-        requires there { IsInstance instance }
-        requires value { IsValue value.now }
+        requires may { MayPropose K.records K.faults svc.now P.past (whole P.past self.old) instance value.now }
         requires fits { values_fit svc.now (knows P.past self.old ++ value.now ∷ []) ≡ true }
-        requires cut { IsOwnCut svc.now (whole P.past self.old) value.now }
-        requires count { K.faults self.old.keeper < 2 ^ 64 - 1 }
         ensures learns { IfOk result (Learns K.records K.append_gives K.faults svc.now P.past instance value.now (whole P.past self.old)
             (whole P.past self.new) draft.old draft.new) }
         ensures parts { IfOk result (HasLearned svc.now (whole P.past self.old) (whole P.past self.new) instance value.now) }

@@ -1,27 +1,12 @@
 use Rattle.rex_node.proofs.Common.{ap, ◌∙◌, whole}
 use Rattle.rex_node.proofs.Written.{on_err}
-use Rattle.rex_node.proofs.Adopting.{adopt_down, adopt_rests, adopt_stuck, alone_again, alone_count, alone_cut, alone_down, alone_fits, alone_kept, alone_leads, alone_next, alone_stuck, alone_up, chooses_of, chosen_cut, chosen_leads, chosen_short, chosen_there, known_as, learns_as, longer_as, nodes_few, nodes_many, opens_as, opens_short_as, parts_as, same_then, told_is}
+use Rattle.rex_node.proofs.Adopting.{adopt_down, adopt_rests, adopt_stuck, alone_again, alone_down, alone_fits, alone_may, alone_stuck, chooses_of, chosen_may, known_as, learns_as, longer_as, nodes_few, nodes_many, opens_as, opens_short_as, parts_as, same_then, told_is}
 use Rattle.rex_node.proofs.node.Node.adopt.Goals as goal
 
-pub propose-requires-clause-leads : goal.propose-requires-clause-leads
-propose-requires-clause-leads g c =
-    chosen_leads g.K.Keeper.append_gives g.K.Keeper.faults c.declarations-service.ensures.sound c.declarations-service.ensures.checked c.requires.kept c.requires.up c.requires.next
-    (chooses_of _ c.requires.goes c.requires.reported) _ c.requires.turns
-
-pub propose-requires-clause-there : goal.propose-requires-clause-there
-propose-requires-clause-there g c =
-    chosen_there g.K.Keeper.append_gives g.K.Keeper.faults c.declarations-service.ensures.sound c.declarations-service.ensures.checked c.requires.kept c.requires.up c.requires.next
-    (chooses_of _ c.requires.goes c.requires.reported) _ c.requires.turns
-
-pub propose-requires-clause-value : goal.propose-requires-clause-value
-propose-requires-clause-value g c =
-    chosen_short g.K.Keeper.append_gives g.K.Keeper.faults c.declarations-service.ensures.sound c.declarations-service.ensures.checked c.requires.kept c.requires.up c.requires.next
-    (chooses_of _ c.requires.goes c.requires.reported) _ c.requires.turns
-
-pub propose-requires-clause-cut : goal.propose-requires-clause-cut
-propose-requires-clause-cut g c =
-    chosen_cut g.K.Keeper.append_gives g.K.Keeper.faults c.declarations-service.ensures.sound c.declarations-service.ensures.checked c.requires.kept c.requires.up c.requires.next
-    (chooses_of _ c.requires.goes c.requires.reported) _ c.requires.turns
+pub propose-requires : goal.propose-requires
+propose-requires g c = record {
+  may = chosen_may g.K.Keeper.append_gives _ c.declarations-service.ensures.sound c.declarations-service.ensures.checked c.requires.kept c.requires.up c.requires.next (chooses_of _ c.requires.goes c.requires.reported) _ c.requires.turns c.requires.count;
+}
 
 pub returns-in-Down-clause-goes : goal.returns-in-Down-clause-goes
 returns-in-Down-clause-goes g c =
@@ -40,55 +25,15 @@ returns-then-self-gt1-clause-goes g c =
     (longer_as g.K.Keeper.records (whole g.P.Past.past c.args.self.now) (whole g.P.Past.past c.propose.new.self) c.in-On.is c.in_ok-propose.ensures.longer)
     (nodes_many (ap (λ n. n.nodes) c.self-in-On.view_is ∙ c.in_ok-propose.ensures.same.nodes) c.if-self-gt1.true)
 
-pub learn-requires-clause-kept : goal.learn-requires-clause-kept
-learn-requires-clause-kept g c =
-    alone_kept g.K.Keeper.append_gives g.K.Keeper.faults c.declarations-service.ensures.sound c.declarations-service.ensures.checked c.requires.kept c.requires.up c.requires.next
+pub learn-requires-clause-may : goal.learn-requires-clause-may
+learn-requires-clause-may g c =
+    alone_may g.K.Keeper.append_gives g.K.Keeper.faults c.declarations-service.ensures.sound c.declarations-service.ensures.checked c.requires.kept c.requires.up c.requires.next
     (chooses_of c.args.self.now.proposer c.requires.goes c.requires.reported) c.args.turns c.requires.turns
     c.args.draft.now c.propose.new.draft
     (opens_as g.K.Keeper.records g.K.Keeper.append_gives g.K.Keeper.faults c.args.svc.now g.P.Past.past (whole g.P.Past.past c.args.self.now) (whole g.P.Past.past c.propose.new.self) c.args.draft.now c.propose.new.draft c.args.instance c.args.value.now (told_is c.args.value.now (ap (λ n. n.id) c.self.view_is) c.event_count-events.ensures) c.in-On.is c.in_ok-propose.ensures.opens)
     (parts_as (whole g.P.Past.past c.args.self.now) c.args.instance c.args.value.now c.in-On.is c.in_ok-propose.ensures.parts)
     (longer_as g.K.Keeper.records (whole g.P.Past.past c.args.self.now) (whole g.P.Past.past c.propose.new.self) c.in-On.is c.in_ok-propose.ensures.longer)
-    (nodes_few (ap (λ n. n.nodes) c.self-in-On.view_is ∙ c.in_ok-propose.ensures.same.nodes) c.if-self-gt1.false)
-
-pub learn-requires-clause-up : goal.learn-requires-clause-up
-learn-requires-clause-up g c =
-    alone_up g.K.Keeper.append_gives g.K.Keeper.faults c.declarations-service.ensures.sound c.declarations-service.ensures.checked c.requires.kept c.requires.up c.requires.next
-    (chooses_of c.args.self.now.proposer c.requires.goes c.requires.reported) c.args.turns c.requires.turns
-    c.args.draft.now c.propose.new.draft
-    (opens_as g.K.Keeper.records g.K.Keeper.append_gives g.K.Keeper.faults c.args.svc.now g.P.Past.past (whole g.P.Past.past c.args.self.now) (whole g.P.Past.past c.propose.new.self) c.args.draft.now c.propose.new.draft c.args.instance c.args.value.now (told_is c.args.value.now (ap (λ n. n.id) c.self.view_is) c.event_count-events.ensures) c.in-On.is c.in_ok-propose.ensures.opens)
-    (parts_as (whole g.P.Past.past c.args.self.now) c.args.instance c.args.value.now c.in-On.is c.in_ok-propose.ensures.parts)
-    (longer_as g.K.Keeper.records (whole g.P.Past.past c.args.self.now) (whole g.P.Past.past c.propose.new.self) c.in-On.is c.in_ok-propose.ensures.longer)
-    (nodes_few (ap (λ n. n.nodes) c.self-in-On.view_is ∙ c.in_ok-propose.ensures.same.nodes) c.if-self-gt1.false)
-
-pub learn-requires-clause-leads : goal.learn-requires-clause-leads
-learn-requires-clause-leads g c =
-    alone_leads g.K.Keeper.append_gives g.K.Keeper.faults c.declarations-service.ensures.sound c.declarations-service.ensures.checked c.requires.kept c.requires.up c.requires.next
-    (chooses_of c.args.self.now.proposer c.requires.goes c.requires.reported) c.args.turns c.requires.turns
-    c.args.draft.now c.propose.new.draft
-    (opens_as g.K.Keeper.records g.K.Keeper.append_gives g.K.Keeper.faults c.args.svc.now g.P.Past.past (whole g.P.Past.past c.args.self.now) (whole g.P.Past.past c.propose.new.self) c.args.draft.now c.propose.new.draft c.args.instance c.args.value.now (told_is c.args.value.now (ap (λ n. n.id) c.self.view_is) c.event_count-events.ensures) c.in-On.is c.in_ok-propose.ensures.opens)
-    (parts_as (whole g.P.Past.past c.args.self.now) c.args.instance c.args.value.now c.in-On.is c.in_ok-propose.ensures.parts)
-    (longer_as g.K.Keeper.records (whole g.P.Past.past c.args.self.now) (whole g.P.Past.past c.propose.new.self) c.in-On.is c.in_ok-propose.ensures.longer)
-    (nodes_few (ap (λ n. n.nodes) c.self-in-On.view_is ∙ c.in_ok-propose.ensures.same.nodes) c.if-self-gt1.false)
-
-pub learn-requires-clause-next : goal.learn-requires-clause-next
-learn-requires-clause-next g c =
-    alone_next g.K.Keeper.append_gives g.K.Keeper.faults c.declarations-service.ensures.sound c.declarations-service.ensures.checked c.requires.kept c.requires.up c.requires.next
-    (chooses_of c.args.self.now.proposer c.requires.goes c.requires.reported) c.args.turns c.requires.turns
-    c.args.draft.now c.propose.new.draft
-    (opens_as g.K.Keeper.records g.K.Keeper.append_gives g.K.Keeper.faults c.args.svc.now g.P.Past.past (whole g.P.Past.past c.args.self.now) (whole g.P.Past.past c.propose.new.self) c.args.draft.now c.propose.new.draft c.args.instance c.args.value.now (told_is c.args.value.now (ap (λ n. n.id) c.self.view_is) c.event_count-events.ensures) c.in-On.is c.in_ok-propose.ensures.opens)
-    (parts_as (whole g.P.Past.past c.args.self.now) c.args.instance c.args.value.now c.in-On.is c.in_ok-propose.ensures.parts)
-    (longer_as g.K.Keeper.records (whole g.P.Past.past c.args.self.now) (whole g.P.Past.past c.propose.new.self) c.in-On.is c.in_ok-propose.ensures.longer)
-    (nodes_few (ap (λ n. n.nodes) c.self-in-On.view_is ∙ c.in_ok-propose.ensures.same.nodes) c.if-self-gt1.false)
-
-pub learn-requires-clause-cut : goal.learn-requires-clause-cut
-learn-requires-clause-cut g c =
-    alone_cut g.K.Keeper.append_gives g.K.Keeper.faults c.declarations-service.ensures.sound c.declarations-service.ensures.checked c.requires.kept c.requires.up c.requires.next
-    (chooses_of c.args.self.now.proposer c.requires.goes c.requires.reported) c.args.turns c.requires.turns
-    c.args.draft.now c.propose.new.draft
-    (opens_as g.K.Keeper.records g.K.Keeper.append_gives g.K.Keeper.faults c.args.svc.now g.P.Past.past (whole g.P.Past.past c.args.self.now) (whole g.P.Past.past c.propose.new.self) c.args.draft.now c.propose.new.draft c.args.instance c.args.value.now (told_is c.args.value.now (ap (λ n. n.id) c.self.view_is) c.event_count-events.ensures) c.in-On.is c.in_ok-propose.ensures.opens)
-    (parts_as (whole g.P.Past.past c.args.self.now) c.args.instance c.args.value.now c.in-On.is c.in_ok-propose.ensures.parts)
-    (longer_as g.K.Keeper.records (whole g.P.Past.past c.args.self.now) (whole g.P.Past.past c.propose.new.self) c.in-On.is c.in_ok-propose.ensures.longer)
-    (nodes_few (ap (λ n. n.nodes) c.self-in-On.view_is ∙ c.in_ok-propose.ensures.same.nodes) c.if-self-gt1.false)
+    (nodes_few (ap (λ n. n.nodes) c.self-in-On.view_is ∙ c.in_ok-propose.ensures.same.nodes) c.if-self-gt1.false) c.requires.count
 
 pub learn-requires-clause-fits : goal.learn-requires-clause-fits
 learn-requires-clause-fits g c =
@@ -99,26 +44,6 @@ learn-requires-clause-fits g c =
     (parts_as (whole g.P.Past.past c.args.self.now) c.args.instance c.args.value.now c.in-On.is c.in_ok-propose.ensures.parts)
     (longer_as g.K.Keeper.records (whole g.P.Past.past c.args.self.now) (whole g.P.Past.past c.propose.new.self) c.in-On.is c.in_ok-propose.ensures.longer)
     (nodes_few (ap (λ n. n.nodes) c.self-in-On.view_is ∙ c.in_ok-propose.ensures.same.nodes) c.if-self-gt1.false) c.requires.runs
-
-pub learn-requires-clause-count : goal.learn-requires-clause-count
-learn-requires-clause-count g c =
-    alone_count g.K.Keeper.append_gives g.K.Keeper.faults c.declarations-service.ensures.sound c.declarations-service.ensures.checked c.requires.kept c.requires.up c.requires.next
-    (chooses_of c.args.self.now.proposer c.requires.goes c.requires.reported) c.args.turns c.requires.turns
-    c.args.draft.now c.propose.new.draft
-    (opens_as g.K.Keeper.records g.K.Keeper.append_gives g.K.Keeper.faults c.args.svc.now g.P.Past.past (whole g.P.Past.past c.args.self.now) (whole g.P.Past.past c.propose.new.self) c.args.draft.now c.propose.new.draft c.args.instance c.args.value.now (told_is c.args.value.now (ap (λ n. n.id) c.self.view_is) c.event_count-events.ensures) c.in-On.is c.in_ok-propose.ensures.opens)
-    (parts_as (whole g.P.Past.past c.args.self.now) c.args.instance c.args.value.now c.in-On.is c.in_ok-propose.ensures.parts)
-    (longer_as g.K.Keeper.records (whole g.P.Past.past c.args.self.now) (whole g.P.Past.past c.propose.new.self) c.in-On.is c.in_ok-propose.ensures.longer)
-    (nodes_few (ap (λ n. n.nodes) c.self-in-On.view_is ∙ c.in_ok-propose.ensures.same.nodes) c.if-self-gt1.false) c.requires.count
-
-pub learn-requires-clause-there : goal.learn-requires-clause-there
-learn-requires-clause-there g c =
-    chosen_there g.K.Keeper.append_gives g.K.Keeper.faults c.declarations-service.ensures.sound c.declarations-service.ensures.checked c.requires.kept c.requires.up c.requires.next
-    (chooses_of _ c.requires.goes c.requires.reported) _ c.requires.turns
-
-pub learn-requires-clause-value : goal.learn-requires-clause-value
-learn-requires-clause-value g c =
-    chosen_short g.K.Keeper.append_gives g.K.Keeper.faults c.declarations-service.ensures.sound c.declarations-service.ensures.checked c.requires.kept c.requires.up c.requires.next
-    (chooses_of _ c.requires.goes c.requires.reported) _ c.requires.turns
 
 pub returns-in_err-propose-clause-stuck : goal.returns-in_err-propose-clause-stuck
 returns-in_err-propose-clause-stuck g c =

@@ -1,43 +1,18 @@
 use Rattle.rex_node.proofs.Common.{Some, ap, sym, ◌∙◌, whole}
 use Rattle.rex_node.proofs.Written.{on_err}
 use Rattle.rex_node.proofs.Adopting.{known_as, learns_as, longer_as}
-use Rattle.rex_node.proofs.Majorities.{choose_cut, choose_down, choose_fits, choose_kept, choose_leads, choose_next, choose_short, choose_stuck, choose_there, chosen_count, chosen_ends, chosen_free, chosen_kept, chosen_may, chosen_of, chosen_runs, chosen_stuck, chosen_up}
+use Rattle.rex_node.proofs.Majorities.{choose_down, choose_fits, choose_may, choose_stuck, chosen_count, chosen_ends, chosen_free, chosen_kept, chosen_may, chosen_of, chosen_runs, chosen_stuck, chosen_up}
 use Rattle.rex_node.proofs.node.Node.choose.Goals as goal
 
-pub learn-requires-clause-kept : goal.learn-requires-clause-kept
-learn-requires-clause-kept g c =
-    choose_kept g.K.Keeper.append_gives g.K.Keeper.faults c.declarations-service.ensures.sound c.declarations-service.ensures.checked c.requires.node c.requires.up c.requires.from c.args.draft.now
-    (chosen_of c.requires.vote (sym c.in_ok-value.ensures ∙ c.in-Some.is ∙ ap (λ v. Some v) (sym c.as_slice.ensures)))
-
-pub learn-requires-clause-leads : goal.learn-requires-clause-leads
-learn-requires-clause-leads g c =
-    choose_leads g.K.Keeper.append_gives g.K.Keeper.faults c.declarations-service.ensures.sound c.declarations-service.ensures.checked c.requires.node c.requires.up c.requires.from c.args.draft.now
-    (chosen_of c.requires.vote (sym c.in_ok-value.ensures ∙ c.in-Some.is ∙ ap (λ v. Some v) (sym c.as_slice.ensures)))
-
-pub learn-requires-clause-next : goal.learn-requires-clause-next
-learn-requires-clause-next g c =
-    choose_next g.K.Keeper.append_gives g.K.Keeper.faults c.declarations-service.ensures.sound c.declarations-service.ensures.checked c.requires.node c.requires.up c.requires.from c.args.draft.now
-    (chosen_of c.requires.vote (sym c.in_ok-value.ensures ∙ c.in-Some.is ∙ ap (λ v. Some v) (sym c.as_slice.ensures)))
-
-pub learn-requires-clause-there : goal.learn-requires-clause-there
-learn-requires-clause-there g c =
-    choose_there g.K.Keeper.append_gives g.K.Keeper.faults c.declarations-service.ensures.sound c.declarations-service.ensures.checked c.requires.node c.requires.up c.requires.from c.args.draft.now
-    (chosen_of c.requires.vote (sym c.in_ok-value.ensures ∙ c.in-Some.is ∙ ap (λ v. Some v) (sym c.as_slice.ensures)))
-
-pub learn-requires-clause-value : goal.learn-requires-clause-value
-learn-requires-clause-value g c =
-    choose_short g.K.Keeper.append_gives g.K.Keeper.faults c.declarations-service.ensures.sound c.declarations-service.ensures.checked c.requires.node c.requires.up c.requires.from c.args.draft.now
-    (chosen_of c.requires.vote (sym c.in_ok-value.ensures ∙ c.in-Some.is ∙ ap (λ v. Some v) (sym c.as_slice.ensures)))
+pub learn-requires-clause-may : goal.learn-requires-clause-may
+learn-requires-clause-may g c =
+    choose_may g.K.Keeper.append_gives g.K.Keeper.faults c.declarations-service.ensures.sound c.declarations-service.ensures.checked c.requires.node c.requires.up c.requires.from c.args.draft.now
+    (chosen_of c.requires.vote (sym c.in_ok-value.ensures ∙ c.in-Some.is ∙ ap (λ v. Some v) (sym c.as_slice.ensures))) c.requires.count
 
 pub learn-requires-clause-fits : goal.learn-requires-clause-fits
 learn-requires-clause-fits g c =
     choose_fits g.K.Keeper.append_gives g.K.Keeper.faults c.declarations-service.ensures.sound c.declarations-service.ensures.checked c.requires.node c.requires.up c.requires.from c.args.draft.now
     (chosen_of c.requires.vote (sym c.in_ok-value.ensures ∙ c.in-Some.is ∙ ap (λ v. Some v) (sym c.as_slice.ensures))) c.requires.runs
-
-pub learn-requires-clause-cut : goal.learn-requires-clause-cut
-learn-requires-clause-cut g c =
-    choose_cut g.K.Keeper.append_gives g.K.Keeper.faults c.declarations-service.ensures.sound c.declarations-service.ensures.checked c.requires.node c.requires.up c.requires.from c.args.draft.now
-    (chosen_of c.requires.vote (sym c.in_ok-value.ensures ∙ c.in-Some.is ∙ ap (λ v. Some v) (sym c.as_slice.ensures)))
 
 pub returns-in-Down-clause-ends : goal.returns-in-Down-clause-ends
 returns-in-Down-clause-ends g c =

@@ -6,30 +6,30 @@ use Rattle.rex_node.proofs.node.Node.learn.Goals as goal
 
 pub know-requires : goal.know-requires
 know-requires g c = record {
-  recorder = learn_settles g.K.Keeper.append_gives g.K.Keeper.faults c.declarations-service.ensures.sound c.requires.kept c.requires.up c.requires.leads c.requires.next c.requires.there c.requires.value c.requires.fits c.requires.cut
-      (learn_parts _ _ c.declarations-service.ensures.sound c.requires.kept c.requires.up c.requires.leads c.requires.next c.requires.there c.requires.value c.requires.fits c.requires.cut
+  recorder = learn_settles g.K.Keeper.append_gives g.K.Keeper.faults c.declarations-service.ensures.sound c.requires.may.kept c.requires.may.up c.requires.may.leads c.requires.may.next c.requires.may.there c.requires.may.short c.requires.fits c.requires.may.cut
+      (learn_parts _ _ c.declarations-service.ensures.sound c.requires.may.kept c.requires.may.up c.requires.may.leads c.requires.may.next c.requires.may.there c.requires.may.short c.requires.fits c.requires.may.cut
       c.in_ok-copied.ensures _ c.args.draft.now c.append.new.draft _ c.in_ok-append.ensures.appends c.in-On.is);
   room =
-      let parts = learn_parts _ _ c.declarations-service.ensures.sound c.requires.kept c.requires.up c.requires.leads c.requires.next c.requires.there c.requires.value c.requires.fits c.requires.cut
+      let parts = learn_parts _ _ c.declarations-service.ensures.sound c.requires.may.kept c.requires.may.up c.requires.may.leads c.requires.may.next c.requires.may.there c.requires.may.short c.requires.fits c.requires.may.cut
       c.in_ok-copied.ensures _ c.args.draft.now c.append.new.draft _ c.in_ok-append.ensures.appends c.in-On.is in
-      omega (arith, ap (λ x. length x.known) parts, c.requires.next, c.requires.there.last);
+      omega (arith, ap (λ x. length x.known) parts, c.requires.may.next, c.requires.may.there.last);
   delta = last_spelled c.args.svc.now (whole g.P.Past.past c.args.self.now).known _ c.requires.fits;
 }
 
 pub returns-in-Down-clause-learns : goal.returns-in-Down-clause-learns
 returns-in-Down-clause-learns g c =
-    learn_down _ _ c.declarations-service.ensures.sound c.requires.kept c.requires.up c.requires.leads c.requires.next c.requires.there c.requires.value c.requires.fits c.requires.cut
+    learn_down _ _ c.declarations-service.ensures.sound c.requires.may.kept c.requires.may.up c.requires.may.leads c.requires.may.next c.requires.may.there c.requires.may.short c.requires.fits c.requires.may.cut
     c.in_ok-copied.ensures _ c.args.draft.now c.append.new.draft _ c.in_ok-append.ensures.appends c.in-Down.is
 
 pub returns-clause-learns : goal.returns-clause-learns
 returns-clause-learns g c =
-    learn_on _ _ c.declarations-service.ensures.sound c.requires.kept c.requires.up c.requires.leads c.requires.next c.requires.there c.requires.value c.requires.fits c.requires.cut
+    learn_on _ _ c.declarations-service.ensures.sound c.requires.may.kept c.requires.may.up c.requires.may.leads c.requires.may.next c.requires.may.there c.requires.may.short c.requires.fits c.requires.may.cut
     c.in_ok-copied.ensures _ c.args.draft.now c.append.new.draft _ c.in_ok-append.ensures.appends c.in-On.is
     c.know.new.draft c.in_ok-know-in-On.ensures.knows c.in_ok-know-in-On.ensures.effects c.in_ok-know-in-On.ensures.sends
 
 pub returns-in_err-know-in-On-clause-stuck : goal.returns-in_err-know-in-On-clause-stuck
 returns-in_err-know-in-On-clause-stuck g c =
     on_err _
-    (learn_stuck _ _ c.declarations-service.ensures.sound c.requires.kept c.requires.up c.requires.leads c.requires.next c.requires.there c.requires.value c.requires.fits c.requires.cut
+    (learn_stuck _ _ c.declarations-service.ensures.sound c.requires.may.kept c.requires.may.up c.requires.may.leads c.requires.may.next c.requires.may.there c.requires.may.short c.requires.fits c.requires.may.cut
     c.in_ok-copied.ensures _ _ c.append.new.draft _ c.in_ok-append.ensures.appends c.in-On.is
     c.in_err-know-in-On.ensures.keeper c.in_err-know-in-On.ensures.base)

@@ -1,6 +1,6 @@
-use Rattle.rex_node.proofs.Common.{◌≡◌, ◌+◌, ◌<◌, ◌-◌, ◌^◌, length, ap, sym, subst, ◌∙◌, knows}
+use Rattle.rex_node.proofs.Common.{arith, ◌≡◌, ◌+◌, ◌<◌, ◌-◌, ◌^◌, length, ap, sym, subst, ◌∙◌, knows}
 use Rattle.rex_cluster.proofs.Replies.{some_of}
-use Rattle.rex_node.proofs.ProposedCuts.{cut_fell, cut_short, cut_stuck, cut_waits, cut_known, counted_between, idle_leads, if_both, kept_between, on_error, told_same}
+use Rattle.rex_node.proofs.ProposedCuts.{cut_fell, cut_short, cut_stuck, cut_waits, cut_known, idle_leads, if_both, may_between, on_error, told_same}
 use Rattle.rex_node.proofs.Written.{on_err}
 use Rattle.rex_node.proofs.node.Node.propose_value.Goals as goal
 
@@ -22,25 +22,15 @@ returns-in-Down-clause-ends g c =
     _ c.args.draft.now c.propose.new.draft
     (rw c.in-Down.is at c.in_ok-propose.ensures.opens) c.propose.ensures.same
 
-pub learn-requires-clause-kept : goal.learn-requires-clause-kept
-learn-requires-clause-kept g c =
+pub learn-requires-clause-may : goal.learn-requires-clause-may
+learn-requires-clause-may g c =
     let s = some_of _ c.requires.active in
     let next : c.count-instance.result + 1 ≡ length (knows g.P.Past.past c.args.self.now) + 1 = ap (λ n. n + 1) c.count-instance.ensures.known in
     let told = told_same (ap (λ z. z.id) c.self.view_is) next in
     let l = idle_leads c.args.self.now.acceptor _ c.requires.idle in
-    kept_between _ _ _ _ _ c.requires.node c.requires.up s.1 _ told next
+    may_between _ _ _ _ _ c.requires.node c.requires.up s.1 _ told next
     _ c.args.draft.now c.propose.new.draft
-    (rw c.in-On.is at c.in_ok-propose.ensures.opens) (rw c.in-On.is at c.in_ok-propose.ensures.parts) l.1
-
-pub learn-requires-clause-count : goal.learn-requires-clause-count
-learn-requires-clause-count g c =
-    let s = some_of _ c.requires.active in
-    let next : c.count-instance.result + 1 ≡ length (knows g.P.Past.past c.args.self.now) + 1 = ap (λ n. n + 1) c.count-instance.ensures.known in
-    let told = told_same (ap (λ z. z.id) c.self.view_is) next in
-    let l = idle_leads c.args.self.now.acceptor _ c.requires.idle in
-    subst (λ n. n < 2 ^ 64 - 1) (sym (counted_between _ _ _ _ _ c.requires.node c.requires.up s.1 _ told next
-    _ c.args.draft.now c.propose.new.draft
-    (rw c.in-On.is at c.in_ok-propose.ensures.opens) (rw c.in-On.is at c.in_ok-propose.ensures.parts) l.1)) c.requires.count
+    (rw c.in-On.is at c.in_ok-propose.ensures.opens) (rw c.in-On.is at c.in_ok-propose.ensures.parts) l.1 (record { first = omega arith; last = omega (arith, c.requires.left, next) }) c.requires.value c.requires.cut c.requires.count
 
 pub returns-in_err-propose-clause-stuck : goal.returns-in_err-propose-clause-stuck
 returns-in_err-propose-clause-stuck g c =
