@@ -1,5 +1,5 @@
 -- A node that goes on adopts the value that was reported for the next instance; alone it knows it at once.
-use Rattle.rex_node.proofs.Common.{◌≡◌, ℕ, zero, suc, ◌+◌, ◌-◌, ◌*◌, ◌^◌, ◌<◌, ◌≤◌, Bool, true, false, cond, not, ◌&&◌, List, [], ◌∷◌, ◌++◌, length, inl, inr, Option, Some, None, refl, sym, ap, subst, ◌∙◌, arith, map, is_some, is_none, nat_lt, option_map, IfSome, IsSome, All, and_parts, le-ltb, lt-ltb, same_Some, most_nodes, Kept, IsValue, accepting, AreCounted, ProposerValue, is_candidate, proposed, closed, IsBest, best_for, counted_none, counted_push, Declarations, IsService, IsChecked, StateValue, Answer, Effect, Rec, Proposal, proposal_of, known, Failure, Lead, Role, Service, After, Leading, is_majority, LeadFits, RoleFits, length_push, Call, append, best, choose, decide, lead, leading, learned, led, logged, others, propose, send, settle, turn, Chose, Known, Value, events_of, service_of, values_fit, CallHere, Going, On, Down, Again, Done, Draft, proposal_in, NodeValue, ActingValue, IsCutAt, IsKept, HasDecoded, HasGoneOn, IsResting, IsProposer, IsSame, IsUp, Proposes, here_of, lead_of, open_of, role_of, IsDown, armed_with, BreaksOff, Comes, Fell, IsStuck, Leads, LosesFirst, MayGoOn, RunsOn, above, so_far, FromLead, GoesRound, IsFree, accept_own, knowing, HasLearned, HasOpened, IsOwnCut, MayPropose, Learns, LearnsShort, Opens, OpensShort, goes_on, may_lead, opened, reported_value, settling}
+use Rattle.rex_node.proofs.Common.{◌≡◌, ℕ, zero, suc, ◌+◌, ◌-◌, ◌*◌, ◌^◌, ◌<◌, ◌≤◌, Bool, true, false, cond, not, ◌&&◌, List, [], ◌∷◌, ◌++◌, length, inl, inr, Option, Some, None, refl, sym, ap, subst, ◌∙◌, arith, map, is_some, is_none, nat_lt, option_map, IfSome, IsSome, All, and_parts, le-ltb, lt-ltb, same_Some, most_nodes, Kept, IsValue, accepting, AreCounted, ProposerValue, is_candidate, proposed, closed, IsBest, best_for, counted_none, counted_push, Declarations, IsService, IsChecked, StateValue, Answer, Effect, Rec, Proposal, proposal_of, known, Failure, Lead, Role, Service, After, Leading, is_majority, LeadFits, RoleFits, length_push, Call, append, best, choose, decide, lead, leading, learned, led, logged, others, propose, send, settle, turn, Chose, Known, Value, events_of, service_of, values_fit, CallHere, Going, On, Down, Again, Done, Draft, proposal_in, NodeValue, ActingValue, IsCutAt, IsKept, HasDecoded, HasGoneOn, IsResting, IsProposer, IsSame, IsUp, Proposes, here_of, lead_of, open_of, role_of, IsDown, armed_with, BreaksOff, Comes, Fell, IsStuck, Leads, LosesFirst, HasTurns, RunsOn, above, so_far, FromLead, GoesRound, IsFree, accept_own, knowing, HasLearned, HasOpened, IsOwnCut, MayPropose, Learns, LearnsShort, Opens, OpensShort, goes_on, may_lead, opened, reported_value, settling}
 use Rattle.std.proofs.lemmas.List.Elements.{All-contains, Contains-append_right}
 use Rattle.rex_ballot.specs.Ballot as ballots
 use Rattle.rex_paxos.specs.Counting as counting
@@ -112,7 +112,7 @@ chooses_of (Some p) {w} {i} {v} g r =
 -- ---- a node that adopts
 
 module _ {K : Type 0} {records : K → List (List ℕ)} (gives : K → List ℕ → Answer → K → Type 0) (faults : K → ℕ) {service : Declarations} {past : List Value} (good : IsService service) (checked : IsChecked service) {x : NodeValue K} (kept_so : IsKept records service past x) (up : x.up ≡ true)
-    {i : ℕ} {v : Value} (next : i ≡ length x.known + 1) (c : Chooses x.proposer x.acting i v) (turns : ℕ) (may : MayGoOn x turns) where
+    {i : ℕ} {v : Value} (next : i ≡ length x.known + 1) (c : Chooses x.proposer x.acting i v) (turns : ℕ) (may : HasTurns x turns) where
   u : IsUp service x (here_of records service past x)
   u = kept_so.up up
 
@@ -394,9 +394,9 @@ module _ {K : Type 0} {records : K → List (List ℕ)} (gives : K → List ℕ 
               subst (λ n. IsFree n.proposer (is_some n.acting)) (sym z_is)
               (subst (λ w. IsFree (Some (closed (proposed c.p i))) (is_some (option_map (settling service) w))) (sym c.idle) (refl, λ t. absurd (cc)))
 
-          may_z : MayGoOn z (turns - 2)
+          may_z : HasTurns z (turns - 2)
           may_z =
-              subst (λ n. MayGoOn n (turns - 2)) (sym z_is)
+              subst (λ n. HasTurns n (turns - 2)) (sym z_is)
               (subst (λ q. 2 * above (length (x.known ++ v ∷ [])) q.reported + 1 ≤ turns - 2) (sym p_opened)
               (subst (λ n. 2 * above n c.p.reported + 1 ≤ turns - 2) (sym many) (omega (arith, may_p, less))))
 

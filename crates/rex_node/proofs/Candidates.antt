@@ -1,5 +1,5 @@
 -- A node that asks to lead does as the model's.
-use Rattle.rex_node.proofs.Common.{◌≡◌, ℕ, suc, ◌+◌, ◌*◌, ◌<◌, ◌≤◌, Bool, true, false, cond, List, [], ◌∷◌, ◌++◌, length, take, Result, Ok, Err, Option, Some, None, inr, refl, sym, ap, subst, ◌∙◌, arith, le_refl, map, nat_lt, is_some, IfOk, OnErr, IfSome, AllocError, false≢true, length-map, All-filter, Kept, IsValue, promising, IsOneOf, ProposerValue, counted_none, counted_push, Declarations, StateValue, start_of, run, HasSpelling, record_bytes, Answer, Rec, Proposal, promise, accepted, from_on, known, Promised, ballot_above, round_of, Failure, Lead, Follower, Leading, Prepare, LeadFits, append, begin, elect, enough, logged, others, own_reports, say, send, settle, stand, with_role, Value, service_of, trace_of, Here, CallHere, length_push, Going, On, Down, Draft, content_in, message_in, Refusal, Step, armed_with, if_up, IsFree, Appends, Ends, Finishes, IsStuck, Leads, LosesFirst, RunsOn, above, so_far, log_of, proposal_in, NodeValue, IsKept, IsResting, IsSame, IsUp, Proposes, here_of, lead_of}
+use Rattle.rex_node.proofs.Common.{◌-◌, ◌^◌, HasTurns, MaySettle, ◌≡◌, ℕ, suc, ◌+◌, ◌*◌, ◌<◌, ◌≤◌, Bool, true, false, cond, List, [], ◌∷◌, ◌++◌, length, take, Result, Ok, Err, Option, Some, None, inr, refl, sym, ap, subst, ◌∙◌, arith, le_refl, map, nat_lt, is_some, IfOk, OnErr, IfSome, AllocError, false≢true, length-map, All-filter, Kept, IsValue, promising, IsOneOf, ProposerValue, counted_none, counted_push, Declarations, StateValue, start_of, run, HasSpelling, record_bytes, Answer, Rec, Proposal, promise, accepted, from_on, known, Promised, ballot_above, round_of, Failure, Lead, Follower, Leading, Prepare, LeadFits, append, begin, elect, enough, logged, others, own_reports, say, send, settle, stand, with_role, Value, service_of, trace_of, Here, CallHere, length_push, Going, On, Down, Draft, content_in, message_in, Refusal, Step, armed_with, if_up, IsFree, Appends, Ends, Finishes, IsStuck, Leads, LosesFirst, RunsOn, above, so_far, log_of, proposal_in, NodeValue, IsKept, IsResting, IsSame, IsUp, Proposes, here_of, lead_of}
 use Rattle.std.proofs.Common.{add-one}
 use Rattle.rex_ballot.specs.Ballot.{IsLeastAbove, ballot_left}
 use Rattle.rex_msg.specs.declared.message.Content.TheVariants as sent
@@ -155,18 +155,18 @@ module _ {K : Type 0} {records : K → List (List ℕ)} (gives : K → List ℕ 
           all : z ≡ z_at
           all = z_is ∙ ap (λ n. standing n b) h.0.parts
 
-          pub stand_kept : IsKept records service past z
+          stand_kept : IsKept records service past z
           stand_kept = subst (IsKept records service past) (sym all) z_kept
 
           -- no proposal is open
-          pub stand_free : IsFree z.proposer (is_some z.acting)
+          stand_free : IsFree z.proposer (is_some z.acting)
           stand_free = subst (λ n. IsFree n.proposer (is_some n.acting)) (sym all) (refl, λ t. absurd (false≢true t))
 
           module _ {turns : ℕ} (turns_are : turns ≡ 2 * length (candidate_of y b).reported + 3) where
             turns_here : turns ≡ 2 * length (candidate_of x b).reported + 3
             turns_here = turns_are ∙ ap (λ n. 2 * length (candidate_of n b).reported + 3) h.0.parts
 
-            pub stand_turns : IfSome z.proposer (λ (p : ProposerValue). 2 * above (length z.known) p.reported + 1 ≤ turns)
+            stand_turns : HasTurns z turns
             stand_turns =
                 subst (λ n. IfSome n.proposer (λ p. 2 * above (length n.known) p.reported + 1 ≤ turns)) (sym all)
                 (omega (arith, above_most (length x.known) (candidate_of x b).reported, turns_here))
@@ -214,10 +214,14 @@ module _ {K : Type 0} {records : K → List (List ℕ)} (gives : K → List ℕ 
                       ∙ ap (λ n. settle n x.nodes (service_of service x.seed) x.id (armed_with f (send (say (effect.Candidate x.id b) (with_role (Leading (candidacy x.id b log)) (logged (Promised b) None begun))) (others x.nodes x.id (Prepare b (suc (length (known log)))))))) enough_is
                       ∙ ap (λ d. rest (armed_with f d)) (sym stands_as)
 
-              pub stand_runs : RunsOn service whole begun → RunsOn service (settle turns z.nodes (service_of service z.seed) z.id) (so_far records service past z after)
+              stand_runs : RunsOn service whole begun → RunsOn service (settle turns z.nodes (service_of service z.seed) z.id) (so_far records service past z after)
               stand_runs r =
                   subst (λ n. RunsOn service (settle turns n.nodes (service_of service n.seed) n.id) (so_far records service past n after)) (sym all)
                   (rest_runs past x z_at before after stand_leads r)
+
+              -- it may go on
+              pub stand_may : RunsOn service whole begun → faults x.keeper < 2 ^ 64 - 1 → MaySettle records faults service past turns z after
+              stand_may runs count = record { kept = stand_kept; up = subst (λ n. n.up ≡ true) (sym all) up; free = stand_free; enough = stand_turns; runs = stand_runs runs; count = subst (λ n. faults n.keeper < 2 ^ 64 - 1) (sym all) (subst (λ n. n < 2 ^ 64 - 1) (sym h.0.faults) count) }
 
               pub stand_short : (w : NodeValue K) (end : Result Going AllocError) → OnErr end (IsStuck records gives faults service past (settle turns z.nodes (service_of service z.seed) z.id) z w after) → OnErr end (IsStuck records gives faults service past whole x w before)
               stand_short w (Ok going) s = tt

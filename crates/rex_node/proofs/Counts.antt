@@ -1,5 +1,5 @@
 -- A node counts promises as the model's does.
-use Rattle.rex_node.proofs.Common.{◌≡◌, ℕ, ◌+◌, ◌*◌, ◌<◌, ◌≤◌, Bool, true, false, cond, ◌||◌, not, ◌⊎◌, inl, inr, List, [], ◌∷◌, ◌++◌, length, Option, Some, None, refl, sym, ap, subst, ◌∙◌, arith, length-append, ◌==◌, map, is_some, option_map, IfSome, All, false≢true, length-map, map-append, All-append, All-head, All-tail, All-weaker, Kept, IsValue, AcceptorValue, IsOneOf, AreCounted, is_counted, ProposerValue, is_candidate, voted, Vote, Why, counted_push, Declarations, StateValue, Effect, Answer, Proposal, is_in, is_majority, Failure, Lead, Service, Leading, LeadFits, RoleFits, enough, heard, led, on_own_promise, on_promise, say, settle, Value, service_of, CallHere, Going, Draft, message_in, armed_with, reports_of, told_of, BreaksOff, Ends, IsStuck, Leads, RunsOn, above, so_far, IsFree, proposal_in, NodeValue, ActingValue, HasGoneOn, HasOpen, IsActing, IsKept, IsResting, IsProposer, IsUp, Proposes, RunsShort, Stands, here_of, lead_of, open_of, role_of}
+use Rattle.rex_node.proofs.Common.{◌-◌, ◌^◌, HasTurns, MaySettle, ◌≡◌, ℕ, ◌+◌, ◌*◌, ◌<◌, ◌≤◌, Bool, true, false, cond, ◌||◌, not, ◌⊎◌, inl, inr, List, [], ◌∷◌, ◌++◌, length, Option, Some, None, refl, sym, ap, subst, ◌∙◌, arith, length-append, ◌==◌, map, is_some, option_map, IfSome, All, false≢true, length-map, map-append, All-append, All-head, All-tail, All-weaker, Kept, IsValue, AcceptorValue, IsOneOf, AreCounted, is_counted, ProposerValue, is_candidate, voted, Vote, Why, counted_push, Declarations, StateValue, Effect, Answer, Proposal, is_in, is_majority, Failure, Lead, Service, Leading, LeadFits, RoleFits, enough, heard, led, on_own_promise, on_promise, say, settle, Value, service_of, CallHere, Going, Draft, message_in, armed_with, reports_of, told_of, BreaksOff, Ends, IsStuck, Leads, RunsOn, above, so_far, IsFree, proposal_in, NodeValue, ActingValue, HasGoneOn, HasOpen, IsActing, IsKept, IsResting, IsProposer, IsUp, Proposes, RunsShort, Stands, here_of, lead_of, open_of, role_of}
 use Rattle.std.proofs.lemmas.Cmp.{nat_eq_equiv}
 use Rattle.rex_ballot.specs.Proposals.{IsProposal}
 use Rattle.rex_paxos.specs.Counting as counts
@@ -341,17 +341,17 @@ module _ {K : Type 0} {records : K → List (List ℕ)} (gives : K → List ℕ 
       -- ---- it is a majority
 
       module _ (many : counts.is_majority p.nodes (length p.promised + 1) ≡ true) {z : NodeValue K} (z_is : z ≡ counting x b from reported) where
-        pub promise_kept : IsKept records service past z
+        promise_kept : IsKept records service past z
         promise_kept = subst (IsKept records service past) (sym (counted_at z_is)) z_kept
 
-        pub promise_free : IsFree z.proposer (is_some z.acting)
+        promise_free : IsFree z.proposer (is_some z.acting)
         promise_free = subst (λ n. IsFree n.proposer (is_some n.acting)) (sym (counted_at z_is)) (free.1, λ t. absurd (false≢true (sym free.0 ∙ t)))
 
         module _ {turns : ℕ} (turns_are : turns ≡ 2 * reports_of z.proposer + 3) where
           turns_here : turns ≡ 2 * length more.reported + 3
           turns_here = turns_are ∙ ap (λ n. 2 * reports_of n.proposer + 3) (counted_at z_is)
 
-          pub promise_turns : IfSome z.proposer (λ (q : ProposerValue). 2 * above (length z.known) q.reported + 1 ≤ turns)
+          promise_turns : HasTurns z turns
           promise_turns =
               subst (λ n. IfSome n.proposer (λ q. 2 * above (length n.known) q.reported + 1 ≤ turns)) (sym (counted_at z_is))
               (omega (arith, above_most (length x.known) more.reported, turns_here))
@@ -367,10 +367,14 @@ module _ {K : Type 0} {records : K → List (List ℕ)} (gives : K → List ℕ 
               ∙ ap (λ n. settle (2 * n + 3) x.nodes (service_of service x.seed) x.id (armed_with f (so_far records service past z_at before))) (length-map more.reported proposal_in)
               ∙ ap (λ n. settle n x.nodes (service_of service x.seed) x.id (armed_with f (so_far records service past z_at before))) (sym turns_here))
 
-          pub promise_runs : RunsOn service whole begun → RunsOn service (settle turns z.nodes (service_of service z.seed) z.id) (so_far records service past z before)
+          promise_runs : RunsOn service whole begun → RunsOn service (settle turns z.nodes (service_of service z.seed) z.id) (so_far records service past z before)
           promise_runs r =
               subst (λ n. RunsOn service (settle turns n.nodes (service_of service n.seed) n.id) (so_far records service past n before)) (sym (counted_at z_is))
               (rest_runs past x z_at before before promise_leads r)
+
+          -- it may go on
+          pub promise_may : RunsOn service whole begun → faults x.keeper < 2 ^ 64 - 1 → MaySettle records faults service past turns z before
+          promise_may runs count = record { kept = promise_kept; up = subst (λ n. n.up ≡ true) (sym (counted_at z_is)) up; free = promise_free; enough = promise_turns; runs = promise_runs runs; count = subst (λ n. faults n.keeper < 2 ^ 64 - 1) (sym (counted_at z_is)) count }
 
           pub promise_ends : {w : NodeValue K} (after : Draft) (going : Going) → Ends records gives faults service past (settle turns z.nodes (service_of service z.seed) z.id) z w before after going → Ends records gives faults service past whole x w before after going
           promise_ends {w} after going h =

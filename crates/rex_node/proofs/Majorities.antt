@@ -1,5 +1,5 @@
 -- A majority accepted the open proposal of a node that leads: it knows the value, and goes on.
-use Rattle.rex_node.proofs.Common.{◌≡◌, ℕ, suc, ◌+◌, ◌-◌, ◌*◌, ◌^◌, ◌<◌, ◌≤◌, Bool, true, false, cond, not, ◌||◌, List, [], ◌∷◌, ◌++◌, length, inl, inr, Option, Some, None, refl, sym, ap, subst, ◌∙◌, arith, map, is_some, option_map, IfSome, IsSome, IfOk, OnErr, if◌then◌else◌, false≢true, same_Some, length-map, AllocError, most_nodes, Kept, IsValue, proposal_for, ProposerValue, acceptance_refusal, acceptance_vote, closed, is_candidate, voted, Declarations, IsService, IsChecked, StateValue, Answer, known, Known, Lead, Service, Leading, Chose, IsNodeOf, is_majority, LeadFits, RoleFits, decide, enough, learned, led, logged, on_voted, others, send, settle, Value, service_of, values_fit, CallHere, Going, On, Down, Draft, acceptance_vote_on, reports_of, proposal_in, NodeValue, ActingValue, HasDecoded, HasGoneOn, IsActing, IsCutAt, IsKept, IsResting, IsProposer, IsSame, IsUp, OpenIsCut, Proposes, here_of, lead_of, open_of, role_of, IsDown, BreaksOff, Comes, Ends, IsStuck, Leads, LosesFirst, MayGoOn, RunsOn, above, so_far, IsFree, IsOwnCut, MayPropose, Learns, LearnsShort, knowing, replayed_to, settling}
+use Rattle.rex_node.proofs.Common.{MaySettle, ◌≡◌, ℕ, suc, ◌+◌, ◌-◌, ◌*◌, ◌^◌, ◌<◌, ◌≤◌, Bool, true, false, cond, not, ◌||◌, List, [], ◌∷◌, ◌++◌, length, inl, inr, Option, Some, None, refl, sym, ap, subst, ◌∙◌, arith, map, is_some, option_map, IfSome, IsSome, IfOk, OnErr, if◌then◌else◌, false≢true, same_Some, length-map, AllocError, most_nodes, Kept, IsValue, proposal_for, ProposerValue, acceptance_refusal, acceptance_vote, closed, is_candidate, voted, Declarations, IsService, IsChecked, StateValue, Answer, known, Known, Lead, Service, Leading, Chose, IsNodeOf, is_majority, LeadFits, RoleFits, decide, enough, learned, led, logged, on_voted, others, send, settle, Value, service_of, values_fit, CallHere, Going, On, Down, Draft, acceptance_vote_on, reports_of, proposal_in, NodeValue, ActingValue, HasDecoded, HasGoneOn, IsActing, IsCutAt, IsKept, IsResting, IsProposer, IsSame, IsUp, OpenIsCut, Proposes, here_of, lead_of, open_of, role_of, IsDown, BreaksOff, Comes, Ends, IsStuck, Leads, LosesFirst, HasTurns, RunsOn, above, so_far, IsFree, IsOwnCut, MayPropose, Learns, LearnsShort, knowing, replayed_to, settling}
 use Rattle.std.specs.Prelude.{Result, Ok, Err}
 use Rattle.rex_ballot.specs.Ballot as ballots
 use Rattle.rex_paxos.specs.declared.answers.Vote.TheVariants as vote
@@ -181,10 +181,10 @@ module _ {K : Type 0} {records : K → List (List ℕ)} (gives : K → List ℕ 
     z_is : z ≡ record x { keeper = z.keeper; known = x.known ++ v ∷ []; replayed = replayed_to x.acting i x.replayed; proposer = Some (closed c.p); acting = option_map (settling service) x.acting }
     z_is = known_is ∙ ap (λ o. record (knowing service x i v) { keeper = z.keeper; proposer = option_map closed o }) c.p_is
 
-    pub chosen_kept : IsKept records service past z
+    chosen_kept : IsKept records service past z
     chosen_kept = comes_z.1
 
-    pub chosen_up : z.up ≡ true
+    chosen_up : z.up ≡ true
     chosen_up = comes_z.2
 
     elected : is_candidate c.p ≡ false
@@ -196,22 +196,23 @@ module _ {K : Type 0} {records : K → List (List ℕ)} (gives : K → List ℕ 
         go true = refl
         go false = refl
 
-    pub chosen_free : IsFree z.proposer (is_some z.acting)
+    chosen_free : IsFree z.proposer (is_some z.acting)
     chosen_free = subst (λ n. IsFree n.proposer (is_some n.acting)) (sym z_is) (refl, λ t. elected)
 
-    pub chosen_may : MayGoOn z (turns - 1)
-    chosen_may =
-        subst (λ n. MayGoOn n (turns - 1)) (sym z_is)
+    chosen_turns : HasTurns z (turns - 1)
+    chosen_turns =
+        subst (λ n. HasTurns n (turns - 1)) (sym z_is)
         (let few : above (length (x.known ++ v ∷ [])) c.p.reported ≤ length c.p.reported = above_most _ _ in omega (arith, few, left))
 
     rest_of : settle (turns - 1) z.nodes (service_of service z.seed) z.id ≡ rest
     rest_of = settles_as records gives faults service past _ same ∙ ap (λ t. settle t x.nodes sv x.id) left
 
-    pub chosen_runs : RunsOn service whole (so_far records service past x before) → RunsOn service (settle (turns - 1) z.nodes (service_of service z.seed) z.id) (so_far records service past z mid)
+    chosen_runs : RunsOn service whole (so_far records service past x before) → RunsOn service (settle (turns - 1) z.nodes (service_of service z.seed) z.id) (so_far records service past z mid)
     chosen_runs runs = subst (λ k. RunsOn service k (so_far records service past z mid)) (sym rest_of) (rest_runs past x z before mid leads_z runs)
 
-    pub chosen_count : faults x.keeper < 2 ^ 64 - 1 → faults z.keeper < 2 ^ 64 - 1
-    chosen_count h = subst (λ n. n < 2 ^ 64 - 1) (sym leads_z.counted) h
+    -- it may go on
+    pub chosen_may : RunsOn service whole (so_far records service past x before) → faults x.keeper < 2 ^ 64 - 1 → MaySettle records faults service past (turns - 1) z mid
+    chosen_may runs count = record { kept = chosen_kept; up = chosen_up; free = chosen_free; enough = chosen_turns; runs = chosen_runs runs; count = subst (λ n. n < 2 ^ 64 - 1) (sym leads_z.counted) count }
 
     -- as going on ends, so does the call
     pub chosen_ends : (y : NodeValue K) (after : Draft) (result : Result Going AllocError) → IfOk result (Ends records gives faults service past (settle (turns - 1) z.nodes (service_of service z.seed) z.id) z y mid after) → IfOk result (Ends records gives faults service past whole x y before after)

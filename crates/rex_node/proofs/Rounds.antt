@@ -1,5 +1,5 @@
 -- A node that leads goes on, a round at a time.
-use Rattle.rex_node.proofs.Common.{◌≡◌, ℕ, zero, suc, ◌+◌, ◌-◌, ◌*◌, ◌≤◌, Bool, true, false, cond, not, ◌||◌, ◌&&◌, List, [], ◌∷◌, ◌++◌, length, Option, Some, None, refl, sym, ap, subst, ◌∙◌, arith, le_refl, map, is_some, is_none, option_map, unwrap_or, IfSome, All-nil, Lcg, Kept, AreCounted, ProposerValue, is_candidate, Declarations, RequestFits, AnswersValue, answers_at, StateValue, Answer, known, Failure, Lead, Role, Service, Leading, is_majority, LeadFits, RoleFits, Call, best, choose, lead, leading, settle, turn, Value, service_of, trace_of, CallHere, On, Done, Draft, message_in, proposal_in, NodeValue, ActingValue, ActsFor, HasGoneOn, IsActing, IsKept, IsProposer, IsUp, OpenIsCut, Proposes, here_of, lead_of, open_of, role_of, HasReached, ReachedValue, reached_at, armed_with, MayGoOn, above, so_far, GoesRound, IsFree, goes_on, may_lead, reported_value, take_all, run, start_of}
+use Rattle.rex_node.proofs.Common.{◌≡◌, ℕ, zero, suc, ◌+◌, ◌-◌, ◌*◌, ◌≤◌, Bool, true, false, cond, not, ◌||◌, ◌&&◌, List, [], ◌∷◌, ◌++◌, length, Option, Some, None, refl, sym, ap, subst, ◌∙◌, arith, le_refl, map, is_some, is_none, option_map, unwrap_or, IfSome, All-nil, Lcg, Kept, AreCounted, ProposerValue, is_candidate, Declarations, RequestFits, AnswersValue, answers_at, StateValue, Answer, known, Failure, Lead, Role, Service, Leading, is_majority, LeadFits, RoleFits, Call, best, choose, lead, leading, settle, turn, Value, service_of, trace_of, CallHere, On, Done, Draft, message_in, proposal_in, NodeValue, ActingValue, ActsFor, HasGoneOn, IsActing, IsKept, IsProposer, IsUp, OpenIsCut, Proposes, here_of, lead_of, open_of, role_of, HasReached, ReachedValue, reached_at, armed_with, HasTurns, above, so_far, GoesRound, IsFree, goes_on, may_lead, reported_value, take_all, run, start_of}
 use Rattle.rex_paxos.specs.Counting as counting
 use Rattle.rex_record.specs.Value.{RecorderValue, started}
 use Rattle.rex_report.specs.declared.effect.Effect.TheVariants as effect
@@ -89,7 +89,7 @@ module _ {K : Type 0} {records : K → List (List ℕ)} (gives : K → List ℕ 
 
   -- ---- it is active
 
-  module _ (may : MayGoOn x turns) (goes : goes_on x.proposer (is_some x.acting) ≡ true) {i : ℕ} (next : i ≡ length x.known + 1) (unreported : reported_value x.proposer i ≡ None) {z : NodeValue K} (h : IsActive service x z) (after : Draft)
+  module _ (may : HasTurns x turns) (goes : goes_on x.proposer (is_some x.acting) ≡ true) {i : ℕ} (next : i ≡ length x.known + 1) (unreported : reported_value x.proposer i ≡ None) {z : NodeValue K} (h : IsActive service x z) (after : Draft)
       (effects : after.effects.items ≡ before.effects.items ++ effect.Active x.id (unwrap_or (option_map (λ (p : ProposerValue). p.ballot) x.proposer) 0) ∷ []) (sends : after.sends.items ≡ before.sends.items) where
     module _ {p : ProposerValue} (e : x.proposer ≡ Some p) where
       goes_p : may_lead p (is_some x.acting) ≡ true

@@ -1,5 +1,5 @@
 -- Rounds of going on follow one another.
-use Rattle.rex_node.proofs.Common.{◌≡◌, ℕ, ◌-◌, ◌^◌, ◌<◌, true, List, length, ◌⊎◌, inl, inr, refl, sym, ap, subst, ◌∙◌, arith, is_some, Declarations, Answer, settle, service_of, Value, CallHere, Going, On, Down, Again, Done, Draft, NodeValue, IsKept, IsSame, Stands, Comes, Ends, Fell, IsStuck, Leads, MayGoOn, RunsOn, so_far, GoesRound, IsFree}
+use Rattle.rex_node.proofs.Common.{MaySettle, ◌≡◌, ℕ, ◌-◌, ◌^◌, ◌<◌, true, List, length, ◌⊎◌, inl, inr, refl, sym, ap, subst, ◌∙◌, arith, is_some, Declarations, Answer, settle, service_of, Value, CallHere, Going, On, Down, Again, Done, Draft, NodeValue, IsKept, IsSame, Stands, Comes, Ends, Fell, IsStuck, Leads, HasTurns, RunsOn, so_far, GoesRound, IsFree}
 use Rattle.rex_node.specs.declared.going.Round.{Round}
 use Rattle.rex_node.proofs.Adopting.{same_then}
 use Rattle.rex_node.proofs.GoingLemmas.{leads_same, leads_then, leads_fell}
@@ -15,24 +15,18 @@ module _ {K : Type 0} (records : K → List (List ℕ)) (gives : K → List ℕ 
   pub record GoneOn (turns left : ℕ) (x y : NodeValue K) (before after : Draft) : Type 0 where
     pub comes : Comes records gives faults service past (settles x turns) (settles x left) x y before after On
     pub same : IsSame x y
-    pub free : IsFree y.proposer (is_some y.acting)
-    pub may : MayGoOn y left
-    pub runs : RunsOn service (settles y left) (so_far records service past y after)
-    pub count : faults y.keeper < 2 ^ 64 - 1
+    pub may : MaySettle records faults service past left y after
     pub moved : (y ≡ x) ⊎ (length (records x.keeper) < length (records y.keeper))
 
   pub settles_as : {x y : NodeValue K} (turns : ℕ) → IsSame x y → settles y turns ≡ settles x turns
   settles_as {x} {y} turns h =
       ap (λ n. settle turns n (service_of service y.seed) y.id) h.nodes ∙ ap (λ n. settle turns x.nodes (service_of service n) y.id) h.seed ∙ ap (λ n. settle turns x.nodes (service_of service x.seed) n) h.id
 
-  pub gone_none : {turns : ℕ} {x : NodeValue K} {before : Draft} → IsKept records service past x → x.up ≡ true → IsFree x.proposer (is_some x.acting) → MayGoOn x turns → RunsOn service (settles x turns) (so_far records service past x before) → faults x.keeper < 2 ^ 64 - 1 → GoneOn turns turns x x before before
-  gone_none {turns} {x} {before} kept up free may runs count = record {
-    comes = (leads_same records gives faults service refl (λ f. refl), kept, up);
+  pub gone_none : {turns : ℕ} {x : NodeValue K} {before : Draft} → MaySettle records faults service past turns x before → GoneOn turns turns x x before before
+  gone_none {turns} {x} {before} may = record {
+    comes = (leads_same records gives faults service refl (λ f. refl), may.kept, may.up);
     same = record { id = refl; nodes = refl; seed = refl; decoded = refl };
-    free = free;
     may = may;
-    runs = runs;
-    count = count;
     moved = inl refl;
   }
 
@@ -47,10 +41,14 @@ module _ {K : Type 0} (records : K → List (List ℕ)) (gives : K → List ℕ 
     gone_again k = record {
       comes = (first_leads (subst (λ rest. Leads records gives faults service (settles y left) rest y.keeper z.keeper (so_far records service past y mid) (so_far records service past z after)) (settles_as _ h.same) k.0.0), k.0.1, k.0.2);
       same = same_then h.same same;
-      free = k.2;
-      may = k.1;
-      runs = subst (λ rest. RunsOn service rest (so_far records service past z after)) (sym (settles_as _ same)) (rest_runs past y z mid after k.0.0 h.runs);
-      count = subst (λ n. n < 2 ^ 64 - 1) (sym k.0.0.counted) h.count;
+      may = record {
+        kept = k.0.1;
+        up = k.0.2;
+        free = k.2;
+        enough = k.1;
+        runs = subst (λ rest. RunsOn service rest (so_far records service past z after)) (sym (settles_as _ same)) (rest_runs past y z mid after k.0.0 h.may.runs);
+        count = subst (λ n. n < 2 ^ 64 - 1) (sym k.0.0.counted) h.may.count;
+      };
       moved = inr (longer h.moved k.4);
     }
       where

@@ -126,8 +126,8 @@ abbrev pub above : ℕ → List Kept → ℕ
 above known [] = 0
 above known (p ∷ ps) = if nat_lt known p.instance then suc (above known ps) else above known ps
 
-abbrev pub MayGoOn : {K : Type 0} → NodeValue K → ℕ → Type 0
-MayGoOn x turns = IfSome x.proposer (λ (p : ProposerValue). 2 * above (length x.known) p.reported + 1 ≤ turns)
+abbrev pub HasTurns : {K : Type 0} → NodeValue K → ℕ → Type 0
+HasTurns x turns = IfSome x.proposer (λ (p : ProposerValue). 2 * above (length x.known) p.reported + 1 ≤ turns)
 
 -- what the node knows after the rest of a call are deltas that run from the start
 abbrev pub RunsOn : Declarations → (CallHere → CallHere) → CallHere → Type 0

@@ -28,7 +28,7 @@ use Rattle.rex_node.specs.declared.going.Round.{Round}
 use Rattle.rex_node.specs.declared.going.Round.TheVariants.{Again, Done}
 use Rattle.rex_node.specs.declared.step.Draft.{Draft}
 use Rattle.rex_node.specs.Parts.{NodeValue, ActingValue, IsCutAt, IsKept, Stands, lead_of, reached_at}
-use Rattle.rex_node.specs.Going.{BreaksOff, Comes, Ends, LosesFirst, MayGoOn}
+use Rattle.rex_node.specs.Going.{BreaksOff, Comes, Ends, LosesFirst, HasTurns, RunsOn, so_far}
 
 -- this holds of what the node leads with, where it does
 abbrev pub FromLead : {K : Type 0} → NodeValue K → (Lead Value → Type 0) → Type 0
@@ -163,6 +163,15 @@ abbrev pub IsFree : Option ProposerValue → Bool → Type 0
 IsFree None active = Unit {0}
 IsFree (Some p) active = (p.open_instance ≡ None) × (active ≡ true → is_candidate p ≡ false)
 
+-- what going on asks of a node: it is up and free, so many turns are enough, and what it comes to know runs on
+pub record MaySettle {K : Type 0} (records : K → List (List ℕ)) (faults : K → ℕ) (service : Declarations) (past : List Value) (turns : ℕ) (x : NodeValue K) (before : Draft) : Type 0 where
+  pub kept : IsKept records service past x
+  pub up : x.up ≡ true
+  pub free : IsFree x.proposer (is_some x.acting)
+  pub enough : HasTurns x turns
+  pub runs : RunsOn service (settle turns x.nodes (service_of service x.seed) x.id) (so_far records service past x before)
+  pub count : faults x.keeper < 2 ^ 64 - 1
+
 -- an append came after others where the call goes on
 abbrev pub IsLonger : {K : Type 0} → (K → List (List ℕ)) → NodeValue K → NodeValue K → Going → Type 0
 IsLonger records old new On = length (records old.keeper) < length (records new.keeper)
@@ -172,6 +181,6 @@ IsLonger records old new Down = Unit {0}
 abbrev pub GoesRound : {K : Type 0} → (K → List (List ℕ)) → (K → List ℕ → Answer → K → Type 0) → (K → ℕ) → Declarations → List Value → ℕ → (old new : NodeValue K) → (before after : Draft) → Round → Type 0
 GoesRound records gives faults service past turns old new before after Again =
     Comes records gives faults service past (settle turns old.nodes (service_of service old.seed) old.id) (settle (turns - 2) old.nodes (service_of service old.seed) old.id) old new before after On
-    × MayGoOn new (turns - 2) × IsFree new.proposer (is_some new.acting) × (3 ≤ turns) × (length (records old.keeper) < length (records new.keeper))
+    × HasTurns new (turns - 2) × IsFree new.proposer (is_some new.acting) × (3 ≤ turns) × (length (records old.keeper) < length (records new.keeper))
 GoesRound records gives faults service past turns old new before after (Done going) =
     Ends records gives faults service past (settle turns old.nodes (service_of service old.seed) old.id) old new before after going

@@ -13,12 +13,12 @@ ghost use Rattle.rex_cluster.specs.Values.{events_of, release_effect, replies_of
 ghost use Rattle.rex_transfer.specs.Window.{SpellsDelta};
 ghost use Rattle.rex_node.specs.Parts.{IsKept, IsSame, knows, whole};
 ghost use Rattle.rex_log.specs.Messages.{content_in, message_in};
-ghost use Rattle.rex_node.specs.Going.{Ends, IsStuck, RunsOn, so_far, MayGoOn};
+ghost use Rattle.rex_node.specs.Going.{Ends, IsStuck};
 ghost use Rattle.rex_msg.specs.declared.message.Content.TheVariants as sent;
 ghost use Rattle.rex_report.specs.declared.effect.Effect.TheVariants as effect;
 ghost use Rattle.rex_node.specs.Leading as spec;
 ghost use Rattle.rex_node.specs.Leading.{CanSettle, FromLead, MayPropose, releases_in, Opens, OpensShort, HasOpened, Learns, LearnsShort, HasLearned};
-ghost use Rattle.rex_node.specs.Leading.{IsActive, IsFree, IsLonger, GoesRound, opened, knowing, goes_on};
+ghost use Rattle.rex_node.specs.Leading.{IsActive, IsLonger, MaySettle, GoesRound, opened, knowing, goes_on};
 
 use crate::acting::Acting;
 use crate::going::{Going, Round};
@@ -245,15 +245,10 @@ impl<K: Keeper> Node<K> {
         instance: u32,
         value: &[u8],
     ) -> Result<Round, AllocError>
-        requires kept { IsKept K.records svc.now P.past (whole P.past self.old) }
-        requires up { self.old.up ≡ true }
+        requires may { MaySettle K.records K.faults svc.now P.past turns (whole P.past self.old) draft.old }
         requires goes { goes_on self.old.proposer (is_some self.old.acting) ≡ true }
         requires next { instance ≡ length (knows P.past self.old) + 1 }
         requires reported { spec.reported_value self.old.proposer instance ≡ Some value.now }
-        requires turns { MayGoOn (whole P.past self.old) turns }
-        requires runs { RunsOn svc.now (calls.settle turns self.old.nodes (service_of svc.now self.old.seed) self.old.id)
-            (so_far K.records svc.now P.past self.old draft.old) }
-        requires count { K.faults self.old.keeper < 2 ^ 64 - 1 }
         ensures goes { IfOk result (GoesRound K.records K.append_gives K.faults svc.now P.past turns (whole P.past self.old)
             (whole P.past self.new) draft.old draft.new) }
         ensures stuck { OnErr result (IsStuck K.records K.append_gives K.faults svc.now P.past
@@ -290,13 +285,7 @@ impl<K: Keeper> Node<K> {
         draft: &mut Draft,
         turns: u64,
     ) -> Result<Round, AllocError>
-        requires kept { IsKept K.records svc.now P.past (whole P.past self.old) }
-        requires up { self.old.up ≡ true }
-        requires free { IsFree self.old.proposer (is_some self.old.acting) }
-        requires turns { MayGoOn (whole P.past self.old) turns }
-        requires runs { RunsOn svc.now (calls.settle turns self.old.nodes (service_of svc.now self.old.seed) self.old.id)
-            (so_far K.records svc.now P.past self.old draft.old) }
-        requires count { K.faults self.old.keeper < 2 ^ 64 - 1 }
+        requires may { MaySettle K.records K.faults svc.now P.past turns (whole P.past self.old) draft.old }
         ensures goes { IfOk result (GoesRound K.records K.append_gives K.faults svc.now P.past turns (whole P.past self.old)
             (whole P.past self.new) draft.old draft.new) }
         ensures stuck { OnErr result (IsStuck K.records K.append_gives K.faults svc.now P.past
@@ -328,13 +317,7 @@ impl<K: Keeper> Node<K> {
         draft: &mut Draft,
         turns: u64,
     ) -> Result<Going, AllocError>
-        requires kept { IsKept K.records svc.now P.past (whole P.past self.old) }
-        requires up { self.old.up ≡ true }
-        requires free { IsFree self.old.proposer (is_some self.old.acting) }
-        requires turns { MayGoOn (whole P.past self.old) turns }
-        requires runs { RunsOn svc.now (calls.settle turns self.old.nodes (service_of svc.now self.old.seed) self.old.id)
-            (so_far K.records svc.now P.past self.old draft.old) }
-        requires count { K.faults self.old.keeper < 2 ^ 64 - 1 }
+        requires may { MaySettle K.records K.faults svc.now P.past turns (whole P.past self.old) draft.old }
         ensures ends { IfOk result (Ends K.records K.append_gives K.faults svc.now P.past
             (calls.settle turns self.old.nodes (service_of svc.now self.old.seed) self.old.id) (whole P.past self.old)
             (whole P.past self.new) draft.old draft.new) }

@@ -5,20 +5,20 @@ use Rattle.rex_node.proofs.node.Node.adopt.Goals as goal
 
 pub propose-requires : goal.propose-requires
 propose-requires g c = record {
-  may = chosen_may g.K.Keeper.append_gives _ c.declarations-service.ensures.sound c.declarations-service.ensures.checked c.requires.kept c.requires.up c.requires.next (chooses_of _ c.requires.goes c.requires.reported) _ c.requires.turns c.requires.count;
+  may = chosen_may g.K.Keeper.append_gives _ c.declarations-service.ensures.sound c.declarations-service.ensures.checked c.requires.may.kept c.requires.may.up c.requires.next (chooses_of _ c.requires.goes c.requires.reported) _ c.requires.may.enough c.requires.may.count;
 }
 
 pub returns-in-Down-clause-goes : goal.returns-in-Down-clause-goes
 returns-in-Down-clause-goes g c =
-    adopt_down _ _ c.declarations-service.ensures.sound c.declarations-service.ensures.checked c.requires.kept c.requires.up c.requires.next
-    (chooses_of _ c.requires.goes c.requires.reported) _ c.requires.turns
+    adopt_down _ _ c.declarations-service.ensures.sound c.declarations-service.ensures.checked c.requires.may.kept c.requires.may.up c.requires.next
+    (chooses_of _ c.requires.goes c.requires.reported) _ c.requires.may.enough
     c.args.draft.now c.propose.new.draft c.in_ok-propose.ensures.same
     (opens_as _ _ _ _ _ (whole g.P.Past.past c.args.self.now) _ c.args.draft.now c.propose.new.draft _ _ (told_is _ (ap (λ n. n.id) c.self.view_is) c.event_count-events.ensures) c.in-Down.is c.in_ok-propose.ensures.opens)
 
 pub returns-then-self-gt1-clause-goes : goal.returns-then-self-gt1-clause-goes
 returns-then-self-gt1-clause-goes g c =
-    adopt_rests g.K.Keeper.append_gives g.K.Keeper.faults c.declarations-service.ensures.sound c.declarations-service.ensures.checked c.requires.kept c.requires.up c.requires.next
-    (chooses_of c.args.self.now.proposer c.requires.goes c.requires.reported) c.args.turns c.requires.turns
+    adopt_rests g.K.Keeper.append_gives g.K.Keeper.faults c.declarations-service.ensures.sound c.declarations-service.ensures.checked c.requires.may.kept c.requires.may.up c.requires.next
+    (chooses_of c.args.self.now.proposer c.requires.goes c.requires.reported) c.args.turns c.requires.may.enough
     c.args.draft.now c.propose.new.draft
     (opens_as g.K.Keeper.records g.K.Keeper.append_gives g.K.Keeper.faults c.args.svc.now g.P.Past.past (whole g.P.Past.past c.args.self.now) (whole g.P.Past.past c.propose.new.self) c.args.draft.now c.propose.new.draft c.args.instance c.args.value.now (told_is c.args.value.now (ap (λ n. n.id) c.self.view_is) c.event_count-events.ensures) c.in-On.is c.in_ok-propose.ensures.opens)
     (parts_as (whole g.P.Past.past c.args.self.now) c.args.instance c.args.value.now c.in-On.is c.in_ok-propose.ensures.parts)
@@ -27,36 +27,36 @@ returns-then-self-gt1-clause-goes g c =
 
 pub learn-requires-clause-may : goal.learn-requires-clause-may
 learn-requires-clause-may g c =
-    alone_may g.K.Keeper.append_gives g.K.Keeper.faults c.declarations-service.ensures.sound c.declarations-service.ensures.checked c.requires.kept c.requires.up c.requires.next
-    (chooses_of c.args.self.now.proposer c.requires.goes c.requires.reported) c.args.turns c.requires.turns
+    alone_may g.K.Keeper.append_gives g.K.Keeper.faults c.declarations-service.ensures.sound c.declarations-service.ensures.checked c.requires.may.kept c.requires.may.up c.requires.next
+    (chooses_of c.args.self.now.proposer c.requires.goes c.requires.reported) c.args.turns c.requires.may.enough
     c.args.draft.now c.propose.new.draft
     (opens_as g.K.Keeper.records g.K.Keeper.append_gives g.K.Keeper.faults c.args.svc.now g.P.Past.past (whole g.P.Past.past c.args.self.now) (whole g.P.Past.past c.propose.new.self) c.args.draft.now c.propose.new.draft c.args.instance c.args.value.now (told_is c.args.value.now (ap (λ n. n.id) c.self.view_is) c.event_count-events.ensures) c.in-On.is c.in_ok-propose.ensures.opens)
     (parts_as (whole g.P.Past.past c.args.self.now) c.args.instance c.args.value.now c.in-On.is c.in_ok-propose.ensures.parts)
     (longer_as g.K.Keeper.records (whole g.P.Past.past c.args.self.now) (whole g.P.Past.past c.propose.new.self) c.in-On.is c.in_ok-propose.ensures.longer)
-    (nodes_few (ap (λ n. n.nodes) c.self-in-On.view_is ∙ c.in_ok-propose.ensures.same.nodes) c.if-self-gt1.false) c.requires.count
+    (nodes_few (ap (λ n. n.nodes) c.self-in-On.view_is ∙ c.in_ok-propose.ensures.same.nodes) c.if-self-gt1.false) c.requires.may.count
 
 pub learn-requires-clause-fits : goal.learn-requires-clause-fits
 learn-requires-clause-fits g c =
-    alone_fits g.K.Keeper.append_gives g.K.Keeper.faults c.declarations-service.ensures.sound c.declarations-service.ensures.checked c.requires.kept c.requires.up c.requires.next
-    (chooses_of c.args.self.now.proposer c.requires.goes c.requires.reported) c.args.turns c.requires.turns
+    alone_fits g.K.Keeper.append_gives g.K.Keeper.faults c.declarations-service.ensures.sound c.declarations-service.ensures.checked c.requires.may.kept c.requires.may.up c.requires.next
+    (chooses_of c.args.self.now.proposer c.requires.goes c.requires.reported) c.args.turns c.requires.may.enough
     c.args.draft.now c.propose.new.draft
     (opens_as g.K.Keeper.records g.K.Keeper.append_gives g.K.Keeper.faults c.args.svc.now g.P.Past.past (whole g.P.Past.past c.args.self.now) (whole g.P.Past.past c.propose.new.self) c.args.draft.now c.propose.new.draft c.args.instance c.args.value.now (told_is c.args.value.now (ap (λ n. n.id) c.self.view_is) c.event_count-events.ensures) c.in-On.is c.in_ok-propose.ensures.opens)
     (parts_as (whole g.P.Past.past c.args.self.now) c.args.instance c.args.value.now c.in-On.is c.in_ok-propose.ensures.parts)
     (longer_as g.K.Keeper.records (whole g.P.Past.past c.args.self.now) (whole g.P.Past.past c.propose.new.self) c.in-On.is c.in_ok-propose.ensures.longer)
-    (nodes_few (ap (λ n. n.nodes) c.self-in-On.view_is ∙ c.in_ok-propose.ensures.same.nodes) c.if-self-gt1.false) c.requires.runs
+    (nodes_few (ap (λ n. n.nodes) c.self-in-On.view_is ∙ c.in_ok-propose.ensures.same.nodes) c.if-self-gt1.false) c.requires.may.runs
 
 pub returns-in_err-propose-clause-stuck : goal.returns-in_err-propose-clause-stuck
 returns-in_err-propose-clause-stuck g c =
     on_err _
-    (adopt_stuck _ _ c.declarations-service.ensures.sound c.declarations-service.ensures.checked c.requires.kept c.requires.up c.requires.next
-    (chooses_of _ c.requires.goes c.requires.reported) _ c.requires.turns
+    (adopt_stuck _ _ c.declarations-service.ensures.sound c.declarations-service.ensures.checked c.requires.may.kept c.requires.may.up c.requires.next
+    (chooses_of _ c.requires.goes c.requires.reported) _ c.requires.may.enough
     (opens_short_as _ _ _ _ _ (told_is _ (ap (λ n. n.id) c.self.view_is) c.event_count-events.ensures) c.in_err-propose.ensures.stuck))
 
 pub returns-in_err-learn-in-On-clause-stuck : goal.returns-in_err-learn-in-On-clause-stuck
 returns-in_err-learn-in-On-clause-stuck g c =
     on_err c.from_residual-in_err-learn-in-On.result
-    (alone_stuck g.K.Keeper.append_gives g.K.Keeper.faults c.declarations-service.ensures.sound c.declarations-service.ensures.checked c.requires.kept c.requires.up c.requires.next
-    (chooses_of c.args.self.now.proposer c.requires.goes c.requires.reported) c.args.turns c.requires.turns
+    (alone_stuck g.K.Keeper.append_gives g.K.Keeper.faults c.declarations-service.ensures.sound c.declarations-service.ensures.checked c.requires.may.kept c.requires.may.up c.requires.next
+    (chooses_of c.args.self.now.proposer c.requires.goes c.requires.reported) c.args.turns c.requires.may.enough
     c.args.draft.now c.propose.new.draft
     (opens_as g.K.Keeper.records g.K.Keeper.append_gives g.K.Keeper.faults c.args.svc.now g.P.Past.past (whole g.P.Past.past c.args.self.now) (whole g.P.Past.past c.propose.new.self) c.args.draft.now c.propose.new.draft c.args.instance c.args.value.now (told_is c.args.value.now (ap (λ n. n.id) c.self.view_is) c.event_count-events.ensures) c.in-On.is c.in_ok-propose.ensures.opens)
     (parts_as (whole g.P.Past.past c.args.self.now) c.args.instance c.args.value.now c.in-On.is c.in_ok-propose.ensures.parts)
@@ -65,8 +65,8 @@ returns-in_err-learn-in-On-clause-stuck g c =
 
 pub returns-in-Down-2-clause-goes : goal.returns-in-Down-2-clause-goes
 returns-in-Down-2-clause-goes g c =
-    alone_down g.K.Keeper.append_gives g.K.Keeper.faults c.declarations-service.ensures.sound c.declarations-service.ensures.checked c.requires.kept c.requires.up c.requires.next
-    (chooses_of c.args.self.now.proposer c.requires.goes c.requires.reported) c.args.turns c.requires.turns
+    alone_down g.K.Keeper.append_gives g.K.Keeper.faults c.declarations-service.ensures.sound c.declarations-service.ensures.checked c.requires.may.kept c.requires.may.up c.requires.next
+    (chooses_of c.args.self.now.proposer c.requires.goes c.requires.reported) c.args.turns c.requires.may.enough
     c.args.draft.now c.propose.new.draft
     (opens_as g.K.Keeper.records g.K.Keeper.append_gives g.K.Keeper.faults c.args.svc.now g.P.Past.past (whole g.P.Past.past c.args.self.now) (whole g.P.Past.past c.propose.new.self) c.args.draft.now c.propose.new.draft c.args.instance c.args.value.now (told_is c.args.value.now (ap (λ n. n.id) c.self.view_is) c.event_count-events.ensures) c.in-On.is c.in_ok-propose.ensures.opens)
     (parts_as (whole g.P.Past.past c.args.self.now) c.args.instance c.args.value.now c.in-On.is c.in_ok-propose.ensures.parts)
@@ -76,8 +76,8 @@ returns-in-Down-2-clause-goes g c =
 
 pub returns-in-On-2-clause-goes : goal.returns-in-On-2-clause-goes
 returns-in-On-2-clause-goes g c =
-    alone_again g.K.Keeper.append_gives g.K.Keeper.faults c.declarations-service.ensures.sound c.declarations-service.ensures.checked c.requires.kept c.requires.up c.requires.next
-    (chooses_of c.args.self.now.proposer c.requires.goes c.requires.reported) c.args.turns c.requires.turns
+    alone_again g.K.Keeper.append_gives g.K.Keeper.faults c.declarations-service.ensures.sound c.declarations-service.ensures.checked c.requires.may.kept c.requires.may.up c.requires.next
+    (chooses_of c.args.self.now.proposer c.requires.goes c.requires.reported) c.args.turns c.requires.may.enough
     c.args.draft.now c.propose.new.draft
     (opens_as g.K.Keeper.records g.K.Keeper.append_gives g.K.Keeper.faults c.args.svc.now g.P.Past.past (whole g.P.Past.past c.args.self.now) (whole g.P.Past.past c.propose.new.self) c.args.draft.now c.propose.new.draft c.args.instance c.args.value.now (told_is c.args.value.now (ap (λ n. n.id) c.self.view_is) c.event_count-events.ensures) c.in-On.is c.in_ok-propose.ensures.opens)
     (parts_as (whole g.P.Past.past c.args.self.now) c.args.instance c.args.value.now c.in-On.is c.in_ok-propose.ensures.parts)

@@ -1,7 +1,7 @@
 use Rattle.rex_node.proofs.Common.{Some, ap, sym, ◌∙◌, whole}
 use Rattle.rex_node.proofs.Written.{on_err}
 use Rattle.rex_node.proofs.Adopting.{known_as, learns_as, longer_as}
-use Rattle.rex_node.proofs.Majorities.{choose_down, choose_fits, choose_may, choose_stuck, chosen_count, chosen_ends, chosen_free, chosen_kept, chosen_may, chosen_of, chosen_runs, chosen_stuck, chosen_up}
+use Rattle.rex_node.proofs.Majorities.{choose_down, choose_fits, choose_may, choose_stuck, chosen_ends, chosen_may, chosen_of, chosen_stuck}
 use Rattle.rex_node.proofs.node.Node.choose.Goals as goal
 
 pub learn-requires-clause-may : goal.learn-requires-clause-may
@@ -21,65 +21,16 @@ returns-in-Down-clause-ends g c =
     c.learn.new.draft c.in_ok-learn.ensures.same
     (learns_as _ _ _ _ _ (whole g.P.Past.past c.args.self.now) _ c.args.draft.now c.learn.new.draft _ _ c.in-Down.is c.in_ok-learn.ensures.learns)
 
-pub go_on-requires-clause-kept : goal.go_on-requires-clause-kept
-go_on-requires-clause-kept g c =
-    chosen_kept g.K.Keeper.append_gives g.K.Keeper.faults c.declarations-service.ensures.sound c.declarations-service.ensures.checked c.requires.node c.requires.up c.requires.from c.args.draft.now
+pub go_on-requires : goal.go_on-requires
+go_on-requires g c = record {
+  may = chosen_may g.K.Keeper.append_gives g.K.Keeper.faults c.declarations-service.ensures.sound c.declarations-service.ensures.checked c.requires.node c.requires.up c.requires.from c.args.draft.now
     (chosen_of c.requires.vote (sym c.in_ok-value.ensures ∙ c.in-Some.is ∙ ap (λ v. Some v) (sym c.as_slice.ensures)))
     c.learn.new.draft c.in_ok-learn.ensures.same
     (learns_as g.K.Keeper.records g.K.Keeper.append_gives g.K.Keeper.faults c.args.svc.now g.P.Past.past (whole g.P.Past.past c.args.self.now) (whole g.P.Past.past c.learn.new.self) c.args.draft.now c.learn.new.draft c.args.instance c.as_slice.result.now c.in-On.is c.in_ok-learn.ensures.learns)
     (known_as c.args.svc.now (whole g.P.Past.past c.args.self.now) c.args.instance c.as_slice.result.now c.in-On.is c.in_ok-learn.ensures.parts)
     (longer_as g.K.Keeper.records (whole g.P.Past.past c.args.self.now) (whole g.P.Past.past c.learn.new.self) c.in-On.is c.in_ok-learn.ensures.longer)
-    c.turns-turns.ensures
-
-pub go_on-requires-clause-up : goal.go_on-requires-clause-up
-go_on-requires-clause-up g c =
-    chosen_up g.K.Keeper.append_gives g.K.Keeper.faults c.declarations-service.ensures.sound c.declarations-service.ensures.checked c.requires.node c.requires.up c.requires.from c.args.draft.now
-    (chosen_of c.requires.vote (sym c.in_ok-value.ensures ∙ c.in-Some.is ∙ ap (λ v. Some v) (sym c.as_slice.ensures)))
-    c.learn.new.draft c.in_ok-learn.ensures.same
-    (learns_as g.K.Keeper.records g.K.Keeper.append_gives g.K.Keeper.faults c.args.svc.now g.P.Past.past (whole g.P.Past.past c.args.self.now) (whole g.P.Past.past c.learn.new.self) c.args.draft.now c.learn.new.draft c.args.instance c.as_slice.result.now c.in-On.is c.in_ok-learn.ensures.learns)
-    (known_as c.args.svc.now (whole g.P.Past.past c.args.self.now) c.args.instance c.as_slice.result.now c.in-On.is c.in_ok-learn.ensures.parts)
-    (longer_as g.K.Keeper.records (whole g.P.Past.past c.args.self.now) (whole g.P.Past.past c.learn.new.self) c.in-On.is c.in_ok-learn.ensures.longer)
-    c.turns-turns.ensures
-
-pub go_on-requires-clause-free : goal.go_on-requires-clause-free
-go_on-requires-clause-free g c =
-    chosen_free g.K.Keeper.append_gives g.K.Keeper.faults c.declarations-service.ensures.sound c.declarations-service.ensures.checked c.requires.node c.requires.up c.requires.from c.args.draft.now
-    (chosen_of c.requires.vote (sym c.in_ok-value.ensures ∙ c.in-Some.is ∙ ap (λ v. Some v) (sym c.as_slice.ensures)))
-    c.learn.new.draft c.in_ok-learn.ensures.same
-    (learns_as g.K.Keeper.records g.K.Keeper.append_gives g.K.Keeper.faults c.args.svc.now g.P.Past.past (whole g.P.Past.past c.args.self.now) (whole g.P.Past.past c.learn.new.self) c.args.draft.now c.learn.new.draft c.args.instance c.as_slice.result.now c.in-On.is c.in_ok-learn.ensures.learns)
-    (known_as c.args.svc.now (whole g.P.Past.past c.args.self.now) c.args.instance c.as_slice.result.now c.in-On.is c.in_ok-learn.ensures.parts)
-    (longer_as g.K.Keeper.records (whole g.P.Past.past c.args.self.now) (whole g.P.Past.past c.learn.new.self) c.in-On.is c.in_ok-learn.ensures.longer)
-    c.turns-turns.ensures
-
-pub go_on-requires-clause-turns : goal.go_on-requires-clause-turns
-go_on-requires-clause-turns g c =
-    chosen_may g.K.Keeper.append_gives g.K.Keeper.faults c.declarations-service.ensures.sound c.declarations-service.ensures.checked c.requires.node c.requires.up c.requires.from c.args.draft.now
-    (chosen_of c.requires.vote (sym c.in_ok-value.ensures ∙ c.in-Some.is ∙ ap (λ v. Some v) (sym c.as_slice.ensures)))
-    c.learn.new.draft c.in_ok-learn.ensures.same
-    (learns_as g.K.Keeper.records g.K.Keeper.append_gives g.K.Keeper.faults c.args.svc.now g.P.Past.past (whole g.P.Past.past c.args.self.now) (whole g.P.Past.past c.learn.new.self) c.args.draft.now c.learn.new.draft c.args.instance c.as_slice.result.now c.in-On.is c.in_ok-learn.ensures.learns)
-    (known_as c.args.svc.now (whole g.P.Past.past c.args.self.now) c.args.instance c.as_slice.result.now c.in-On.is c.in_ok-learn.ensures.parts)
-    (longer_as g.K.Keeper.records (whole g.P.Past.past c.args.self.now) (whole g.P.Past.past c.learn.new.self) c.in-On.is c.in_ok-learn.ensures.longer)
-    c.turns-turns.ensures
-
-pub go_on-requires-clause-runs : goal.go_on-requires-clause-runs
-go_on-requires-clause-runs g c =
-    chosen_runs g.K.Keeper.append_gives g.K.Keeper.faults c.declarations-service.ensures.sound c.declarations-service.ensures.checked c.requires.node c.requires.up c.requires.from c.args.draft.now
-    (chosen_of c.requires.vote (sym c.in_ok-value.ensures ∙ c.in-Some.is ∙ ap (λ v. Some v) (sym c.as_slice.ensures)))
-    c.learn.new.draft c.in_ok-learn.ensures.same
-    (learns_as g.K.Keeper.records g.K.Keeper.append_gives g.K.Keeper.faults c.args.svc.now g.P.Past.past (whole g.P.Past.past c.args.self.now) (whole g.P.Past.past c.learn.new.self) c.args.draft.now c.learn.new.draft c.args.instance c.as_slice.result.now c.in-On.is c.in_ok-learn.ensures.learns)
-    (known_as c.args.svc.now (whole g.P.Past.past c.args.self.now) c.args.instance c.as_slice.result.now c.in-On.is c.in_ok-learn.ensures.parts)
-    (longer_as g.K.Keeper.records (whole g.P.Past.past c.args.self.now) (whole g.P.Past.past c.learn.new.self) c.in-On.is c.in_ok-learn.ensures.longer)
-    c.turns-turns.ensures c.requires.runs
-
-pub go_on-requires-clause-count : goal.go_on-requires-clause-count
-go_on-requires-clause-count g c =
-    chosen_count g.K.Keeper.append_gives g.K.Keeper.faults c.declarations-service.ensures.sound c.declarations-service.ensures.checked c.requires.node c.requires.up c.requires.from c.args.draft.now
-    (chosen_of c.requires.vote (sym c.in_ok-value.ensures ∙ c.in-Some.is ∙ ap (λ v. Some v) (sym c.as_slice.ensures)))
-    c.learn.new.draft c.in_ok-learn.ensures.same
-    (learns_as g.K.Keeper.records g.K.Keeper.append_gives g.K.Keeper.faults c.args.svc.now g.P.Past.past (whole g.P.Past.past c.args.self.now) (whole g.P.Past.past c.learn.new.self) c.args.draft.now c.learn.new.draft c.args.instance c.as_slice.result.now c.in-On.is c.in_ok-learn.ensures.learns)
-    (known_as c.args.svc.now (whole g.P.Past.past c.args.self.now) c.args.instance c.as_slice.result.now c.in-On.is c.in_ok-learn.ensures.parts)
-    (longer_as g.K.Keeper.records (whole g.P.Past.past c.args.self.now) (whole g.P.Past.past c.learn.new.self) c.in-On.is c.in_ok-learn.ensures.longer)
-    c.turns-turns.ensures c.requires.count
+    c.turns-turns.ensures c.requires.runs c.requires.count;
+}
 
 pub returns-clause-ends : goal.returns-clause-ends
 returns-clause-ends g c =

@@ -23,4 +23,4 @@ returns-in-Done-clause-ends g c =
 
 pub loop-left-init : goal.loop-left-init
 loop-left-init g c =
-    gone_none _ g.K.Keeper.append_gives _ _ _ c.requires.kept c.requires.up c.requires.free c.requires.turns c.requires.runs c.requires.count
+    gone_none _ g.K.Keeper.append_gives _ _ _ c.requires.may

@@ -1,5 +1,5 @@
 use Rattle.rex_node.proofs.Common.{sym, subst, inl, ◌∙◌, map, IsStuck, whole, on_promise, service_of, proposal_in}
-use Rattle.rex_node.proofs.Counts.{counts_many, counts_to, promise_back, promise_ends, promise_free, ignored_same, promise_have, promise_ignored, promise_kept, promise_runs, promise_stuck, promise_turns}
+use Rattle.rex_node.proofs.Counts.{counts_many, counts_to, promise_back, promise_ends, ignored_same, promise_have, promise_ignored, promise_may, promise_stuck}
 use Rattle.rex_node.proofs.node.Node.on_promise.Goals as goal
 use Rattle.rex_node.proofs.Stuck.{stands_same}
 use Rattle.rex_node.proofs.Written.{on_err}
@@ -21,29 +21,11 @@ returns-in-Err-clause-stuck g c =
     promise_back _ _ c.requires.node c.requires.up _ c.requires.from _ c.requires.reported _ n.counts.is n.counts.new
     c.in_ok-why.ensures.counted c.take_back.ensures
 
-pub go_on-requires-clause-kept : goal.go_on-requires-clause-kept
-go_on-requires-clause-kept g c =
+pub go_on-requires : goal.go_on-requires
+go_on-requires g c =
     let n = counts_many _ c.in_ok-why.ensures.vote c.in-Quorum.is in
-    promise_kept g.K.Keeper.append_gives g.K.Keeper.faults c.requires.node c.requires.up _ c.requires.from _ c.requires.reported c.args.draft.now n.is n.new n.majority
-    c.in_ok-why.ensures.counted
-
-pub go_on-requires-clause-free : goal.go_on-requires-clause-free
-go_on-requires-clause-free g c =
-    let n = counts_many _ c.in_ok-why.ensures.vote c.in-Quorum.is in
-    promise_free g.K.Keeper.append_gives g.K.Keeper.faults c.requires.node c.requires.up _ c.requires.from _ c.requires.reported c.args.draft.now n.is n.new n.majority
-    c.in_ok-why.ensures.counted
-
-pub go_on-requires-clause-turns : goal.go_on-requires-clause-turns
-go_on-requires-clause-turns g c =
-    let n = counts_many _ c.in_ok-why.ensures.vote c.in-Quorum.is in
-    promise_turns g.K.Keeper.append_gives g.K.Keeper.faults c.requires.node c.requires.up _ c.requires.from _ c.requires.reported c.args.draft.now n.is n.new n.majority
-    c.in_ok-why.ensures.counted c.turns-turns.ensures
-
-pub go_on-requires-clause-runs : goal.go_on-requires-clause-runs
-go_on-requires-clause-runs g c =
-    let n = counts_many _ c.in_ok-why.ensures.vote c.in-Quorum.is in
-    promise_runs g.K.Keeper.append_gives g.K.Keeper.faults c.requires.node c.requires.up _ c.requires.from _ c.requires.reported c.args.draft.now n.is n.new n.majority
-    c.in_ok-why.ensures.counted c.turns-turns.ensures c.requires.runs
+    record { may = promise_may g.K.Keeper.append_gives g.K.Keeper.faults c.requires.node c.requires.up _ c.requires.from _ c.requires.reported c.args.draft.now n.is n.new n.majority
+    c.in_ok-why.ensures.counted c.turns-turns.ensures c.requires.runs c.requires.count }
 
 pub returns-in-Ok-go_on-clause-ends : goal.returns-in-Ok-go_on-clause-ends
 returns-in-Ok-go_on-clause-ends g c =

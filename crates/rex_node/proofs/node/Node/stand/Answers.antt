@@ -1,6 +1,6 @@
 use Rattle.rex_node.proofs.Common.{refl}
 use Rattle.rex_durable.specs.declared.records.Rec.TheVariants as kept
-use Rattle.rex_node.proofs.Candidates.{stand_down, stand_ends, stand_free, stand_kept, stand_runs, stand_short, stand_stuck, stand_turns}
+use Rattle.rex_node.proofs.Candidates.{stand_down, stand_ends, stand_may, stand_short, stand_stuck}
 use Rattle.rex_node.proofs.Promises.{appends_at, on_err_anyway}
 use Rattle.rex_node.proofs.node.Node.stand.Goals as goal
 
@@ -16,30 +16,13 @@ returns-in_err-turns-in-On-clause-stuck g c =
     (appends_at _ _ _ _ _ c.args.draft.now c.append.new.draft (kept.Promised c.args.ballot) refl c.in-On.is c.in_ok-append.ensures.appends)
     c.in_err-turns-in-On.ensures.keeper c.in_err-turns-in-On.ensures.base)
 
-pub go_on-requires-clause-kept : goal.go_on-requires-clause-kept
-go_on-requires-clause-kept g c =
-    stand_kept _ _ c.requires.node c.requires.up c.requires.left c.requires.least c.args.draft.now _ c.append.new.draft
-    (appends_at _ _ _ _ _ c.args.draft.now c.append.new.draft (kept.Promised c.args.ballot) refl c.in-On.is c.in_ok-append.ensures.appends)
-    c.in_ok-turns-in-On.ensures.stands
-
-pub go_on-requires-clause-free : goal.go_on-requires-clause-free
-go_on-requires-clause-free g c =
-    stand_free _ _ c.requires.node c.requires.up c.requires.left c.requires.least c.args.draft.now _ c.append.new.draft
-    (appends_at _ _ _ _ _ c.args.draft.now c.append.new.draft (kept.Promised c.args.ballot) refl c.in-On.is c.in_ok-append.ensures.appends)
-    c.in_ok-turns-in-On.ensures.stands
-
-pub go_on-requires-clause-turns : goal.go_on-requires-clause-turns
-go_on-requires-clause-turns g c =
-    stand_turns _ _ c.requires.node c.requires.up c.requires.left c.requires.least c.args.draft.now _ c.append.new.draft
+pub go_on-requires : goal.go_on-requires
+go_on-requires g c = record {
+  may = stand_may _ _ c.requires.node c.requires.up c.requires.left c.requires.least c.args.draft.now _ c.append.new.draft
     (appends_at _ _ _ _ _ c.args.draft.now c.append.new.draft (kept.Promised c.args.ballot) refl c.in-On.is c.in_ok-append.ensures.appends)
     c.in_ok-turns-in-On.ensures.stands c.in_ok-turns-in-On.ensures.turns
-
-pub go_on-requires-clause-runs : goal.go_on-requires-clause-runs
-go_on-requires-clause-runs g c =
-    stand_runs _ _ c.requires.node c.requires.up c.requires.left c.requires.least c.args.draft.now _ c.append.new.draft
-    (appends_at _ _ _ _ _ c.args.draft.now c.append.new.draft (kept.Promised c.args.ballot) refl c.in-On.is c.in_ok-append.ensures.appends)
-    c.in_ok-turns-in-On.ensures.stands c.in_ok-turns-in-On.ensures.turns
-    c.candidate.new.draft c.in_ok-turns-in-On.ensures.effects c.in_ok-turns-in-On.ensures.sends c.requires.runs
+    c.candidate.new.draft c.in_ok-turns-in-On.ensures.effects c.in_ok-turns-in-On.ensures.sends c.requires.runs c.requires.count;
+}
 
 pub returns-clause-ends : goal.returns-clause-ends
 returns-clause-ends g c =
