@@ -1,5 +1,5 @@
 -- A node that asks to lead does as the model's.
-use Rattle.rex_node.proofs.Common.{◌-◌, ◌^◌, HasTurns, MaySettle, ◌≡◌, ℕ, suc, ◌+◌, ◌*◌, ◌<◌, ◌≤◌, Bool, true, false, cond, List, [], ◌∷◌, ◌++◌, length, take, Result, Ok, Err, Option, Some, None, inr, refl, sym, ap, subst, ◌∙◌, arith, le_refl, map, nat_lt, is_some, IfOk, OnErr, IfSome, AllocError, false≢true, length-map, All-filter, Kept, IsValue, promising, IsOneOf, ProposerValue, counted_none, counted_push, Declarations, StateValue, start_of, run, HasSpelling, record_bytes, Answer, Rec, Proposal, promise, accepted, from_on, known, Promised, ballot_above, round_of, Failure, Lead, Follower, Leading, Prepare, LeadFits, append, begin, elect, enough, logged, others, own_reports, say, send, settle, stand, with_role, Value, service_of, trace_of, Here, CallHere, length_push, Going, On, Down, Draft, content_in, message_in, Refusal, Step, armed_with, if_up, IsFree, Appends, Ends, Finishes, IsStuck, Leads, LosesFirst, RunsOn, above, so_far, log_of, proposal_in, NodeValue, IsKept, IsResting, IsSame, IsUp, Proposes, here_of, lead_of}
+use Rattle.rex_node.proofs.Common.{◌-◌, ◌^◌, HasTurns, MaySettle, ◌≡◌, ℕ, suc, ◌+◌, ◌*◌, ◌<◌, ◌≤◌, Bool, true, false, cond, List, [], ◌∷◌, ◌++◌, length, take, Result, Ok, Err, Option, Some, None, inr, refl, sym, ap, subst, ◌∙◌, arith, le_refl, map, nat_lt, is_some, IfOk, OnErr, IfSome, AllocError, false≢true, length-map, All-filter, Kept, IsValue, promising, IsOneOf, counted_none, counted_push, Declarations, StateValue, start_of, run, HasSpelling, record_bytes, Answer, Rec, Proposal, promise, accepted, from_on, known, Promised, ballot_above, round_of, Failure, Lead, Follower, Leading, Prepare, LeadFits, append, begin, elect, enough, logged, others, own_reports, say, send, settle, stand, with_role, Value, service_of, trace_of, Here, CallHere, length_push, Going, On, Down, Draft, content_in, message_in, Refusal, Step, armed_with, if_up, IsFree, Appends, Ends, Finishes, IsStuck, Leads, LosesFirst, RunsOn, above, so_far, log_of, proposal_in, NodeValue, IsKept, IsResting, IsSame, IsUp, Proposes, here_of, lead_of}
 use Rattle.std.proofs.Common.{add-one}
 use Rattle.rex_ballot.specs.Ballot.{IsLeastAbove, ballot_left}
 use Rattle.rex_msg.specs.declared.message.Content.TheVariants as sent

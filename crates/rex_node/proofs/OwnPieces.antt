@@ -1,5 +1,5 @@
 -- A node proposes the piece that it has made.
-use Rattle.rex_node.proofs.Common.{◌≡◌, ℕ, suc, ◌+◌, ◌<◌, true, false, cond, List, [], ◌∷◌, ◌++◌, length, Option, Some, None, Result, Ok, Err, inl, inr, refl, sym, ap, subst, ◌∙◌, arith, IfSome, IfOk, OnErr, is_some, nat_le, option_map, false≢true, lt-leb, Declarations, IsService, Event, below, greatest_cut, ProposerValue, Answer, known, Lead, Failure, enough, propose, say, settle, Value, service_of, values_fit, CallHere, Here, active_only, cut_lead, cut_live, cut_role, is_faithful, value_at, Going, On, Down, Piece, Draft, StopsShort, armed_with, counts_for, BreaksOff, Ends, Fell, IsStuck, LeadsOn, so_far, FromLead, IsOwnCut, IsIdle, IsPieceOf, ProposesCut, ProposesCutShort, ProposesPiece, ProposesPieceShort, counts_in, cut_in, ActingValue, NodeValue, Executes, IsCutAt, IsResting, IsUp, RunsShort, Stands, here_of, lead_of, open_of, role_of, work_of, log_of}
+use Rattle.rex_node.proofs.Common.{◌≡◌, ℕ, suc, ◌+◌, ◌<◌, true, false, cond, List, [], ◌∷◌, ◌++◌, length, Option, Some, None, Result, Ok, Err, inl, inr, refl, sym, ap, subst, ◌∙◌, arith, IfSome, IfOk, OnErr, is_some, nat_le, option_map, false≢true, lt-leb, Declarations, IsService, Event, below, greatest_cut, ProposerValue, Answer, known, Lead, Failure, enough, propose, say, settle, Value, service_of, values_fit, CallHere, active_only, cut_lead, cut_live, cut_role, is_faithful, value_at, Going, On, Down, Piece, Draft, StopsShort, armed_with, counts_for, BreaksOff, Ends, Fell, IsStuck, LeadsOn, so_far, FromLead, IsOwnCut, IsIdle, IsPieceOf, ProposesCut, ProposesCutShort, ProposesPiece, ProposesPieceShort, counts_in, cut_in, ActingValue, NodeValue, Executes, IsCutAt, IsResting, IsUp, RunsShort, Stands, here_of, lead_of, open_of, role_of, work_of, log_of}
 use Rattle.std.specs.Prelude.{is_err}
 use Rattle.rex_report.specs.declared.effect.Effect.TheVariants as effect
 use Rattle.rex_cluster.specs.Lanes as lanes

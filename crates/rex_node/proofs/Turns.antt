@@ -1,5 +1,5 @@
 -- Rounds of going on follow one another.
-use Rattle.rex_node.proofs.Common.{MaySettle, ◌≡◌, ℕ, ◌-◌, ◌^◌, ◌<◌, true, List, length, ◌⊎◌, inl, inr, refl, sym, ap, subst, ◌∙◌, arith, is_some, Declarations, Answer, settle, service_of, Value, CallHere, Going, On, Down, Again, Done, Draft, NodeValue, IsKept, IsSame, Stands, Comes, Ends, Fell, IsStuck, Leads, HasTurns, RunsOn, so_far, GoesRound, IsFree}
+use Rattle.rex_node.proofs.Common.{MaySettle, ◌≡◌, ℕ, ◌-◌, ◌^◌, ◌<◌, List, length, ◌⊎◌, inl, inr, refl, sym, ap, subst, ◌∙◌, arith, Declarations, Answer, settle, service_of, Value, CallHere, Going, On, Down, Again, Done, Draft, NodeValue, IsSame, Stands, Comes, Ends, Fell, IsStuck, Leads, RunsOn, so_far, GoesRound}
 use Rattle.rex_node.specs.declared.going.Round.{Round}
 use Rattle.rex_node.proofs.Adopting.{same_then}
 use Rattle.rex_node.proofs.GoingLemmas.{leads_same, leads_then, leads_fell}

@@ -24,12 +24,12 @@ returns-in-Down-clause-ends g c =
 pub go_on-requires : goal.go_on-requires
 go_on-requires g c = record {
   may = chosen_may g.K.Keeper.append_gives g.K.Keeper.faults c.declarations-service.ensures.sound c.declarations-service.ensures.checked c.requires.node c.requires.up c.requires.from c.args.draft.now
-    (chosen_of c.requires.vote (sym c.in_ok-value.ensures ∙ c.in-Some.is ∙ ap (λ v. Some v) (sym c.as_slice.ensures)))
-    c.learn.new.draft c.in_ok-learn.ensures.same
-    (learns_as g.K.Keeper.records g.K.Keeper.append_gives g.K.Keeper.faults c.args.svc.now g.P.Past.past (whole g.P.Past.past c.args.self.now) (whole g.P.Past.past c.learn.new.self) c.args.draft.now c.learn.new.draft c.args.instance c.as_slice.result.now c.in-On.is c.in_ok-learn.ensures.learns)
-    (known_as c.args.svc.now (whole g.P.Past.past c.args.self.now) c.args.instance c.as_slice.result.now c.in-On.is c.in_ok-learn.ensures.parts)
-    (longer_as g.K.Keeper.records (whole g.P.Past.past c.args.self.now) (whole g.P.Past.past c.learn.new.self) c.in-On.is c.in_ok-learn.ensures.longer)
-    c.turns-turns.ensures c.requires.runs c.requires.count;
+      (chosen_of c.requires.vote (sym c.in_ok-value.ensures ∙ c.in-Some.is ∙ ap (λ v. Some v) (sym c.as_slice.ensures)))
+      c.learn.new.draft c.in_ok-learn.ensures.same
+      (learns_as g.K.Keeper.records g.K.Keeper.append_gives g.K.Keeper.faults c.args.svc.now g.P.Past.past (whole g.P.Past.past c.args.self.now) (whole g.P.Past.past c.learn.new.self) c.args.draft.now c.learn.new.draft c.args.instance c.as_slice.result.now c.in-On.is c.in_ok-learn.ensures.learns)
+      (known_as c.args.svc.now (whole g.P.Past.past c.args.self.now) c.args.instance c.as_slice.result.now c.in-On.is c.in_ok-learn.ensures.parts)
+      (longer_as g.K.Keeper.records (whole g.P.Past.past c.args.self.now) (whole g.P.Past.past c.learn.new.self) c.in-On.is c.in_ok-learn.ensures.longer)
+      c.turns-turns.ensures c.requires.runs c.requires.count;
 }
 
 pub returns-clause-ends : goal.returns-clause-ends

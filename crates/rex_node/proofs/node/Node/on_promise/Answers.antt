@@ -24,8 +24,10 @@ returns-in-Err-clause-stuck g c =
 pub go_on-requires : goal.go_on-requires
 go_on-requires g c =
     let n = counts_many _ c.in_ok-why.ensures.vote c.in-Quorum.is in
-    record { may = promise_may g.K.Keeper.append_gives g.K.Keeper.faults c.requires.node c.requires.up _ c.requires.from _ c.requires.reported c.args.draft.now n.is n.new n.majority
-    c.in_ok-why.ensures.counted c.turns-turns.ensures c.requires.runs c.requires.count }
+    record {
+      may = promise_may g.K.Keeper.append_gives g.K.Keeper.faults c.requires.node c.requires.up _ c.requires.from _ c.requires.reported c.args.draft.now n.is n.new n.majority
+          c.in_ok-why.ensures.counted c.turns-turns.ensures c.requires.runs c.requires.count;
+    }
 
 pub returns-in-Ok-go_on-clause-ends : goal.returns-in-Ok-go_on-clause-ends
 returns-in-Ok-go_on-clause-ends g c =

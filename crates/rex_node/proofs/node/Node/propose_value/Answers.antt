@@ -1,4 +1,4 @@
-use Rattle.rex_node.proofs.Common.{arith, ◌≡◌, ◌+◌, ◌<◌, ◌-◌, ◌^◌, length, ap, sym, subst, ◌∙◌, knows}
+use Rattle.rex_node.proofs.Common.{arith, ◌≡◌, ◌+◌, length, ap, sym, ◌∙◌, knows}
 use Rattle.rex_cluster.proofs.Replies.{some_of}
 use Rattle.rex_node.proofs.ProposedCuts.{cut_fell, cut_short, cut_stuck, cut_waits, cut_known, idle_leads, if_both, may_between, on_error, told_same}
 use Rattle.rex_node.proofs.Written.{on_err}

@@ -19,9 +19,9 @@ returns-in_err-turns-in-On-clause-stuck g c =
 pub go_on-requires : goal.go_on-requires
 go_on-requires g c = record {
   may = stand_may _ _ c.requires.node c.requires.up c.requires.left c.requires.least c.args.draft.now _ c.append.new.draft
-    (appends_at _ _ _ _ _ c.args.draft.now c.append.new.draft (kept.Promised c.args.ballot) refl c.in-On.is c.in_ok-append.ensures.appends)
-    c.in_ok-turns-in-On.ensures.stands c.in_ok-turns-in-On.ensures.turns
-    c.candidate.new.draft c.in_ok-turns-in-On.ensures.effects c.in_ok-turns-in-On.ensures.sends c.requires.runs c.requires.count;
+      (appends_at _ _ _ _ _ c.args.draft.now c.append.new.draft (kept.Promised c.args.ballot) refl c.in-On.is c.in_ok-append.ensures.appends)
+      c.in_ok-turns-in-On.ensures.stands c.in_ok-turns-in-On.ensures.turns
+      c.candidate.new.draft c.in_ok-turns-in-On.ensures.effects c.in_ok-turns-in-On.ensures.sends c.requires.runs c.requires.count;
 }
 
 pub returns-clause-ends : goal.returns-clause-ends
