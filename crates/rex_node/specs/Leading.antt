@@ -40,7 +40,7 @@ IsOwnCut service x value = IfSome x.acting (λ (a : ActingValue). IsCutAt servic
 
 -- ---- proposing
 
--- what proposing a value asks of a node: it is up and leads, the instance is its next one, and the value is one that it may propose
+-- what it asks of a node to propose a value, or to know it: the node is up and leads, the instance is its next one, and the value one that it may propose
 pub record MayPropose {K : Type 0} (records : K → List (List ℕ)) (faults : K → ℕ) (service : Declarations) (past : List Value) (x : NodeValue K) (instance : ℕ) (value : Value) : Type 0 where
   pub kept : IsKept records service past x
   pub up : x.up ≡ true
