@@ -20,7 +20,7 @@ pub use Rattle.rex_ballot.specs.declared.proposal.Proposal.{Proposal as Kept}
 pub use Rattle.rex_cluster.proofs.Lists.{length_push}
 pub use Rattle.rex_cluster.proofs.Ranged.{accepted_rising}
 pub use Rattle.rex_cluster.proofs.Replies.{fits_run, state_is, trace_both, trace_push}
-pub use Rattle.rex_cluster.specs.Calls.{Call, answer, answer_base, append, begin, best, choose, decide, drop_known, elect, enough, follow, followed, has_last, heard, lead, leading, learned, led, logged, on_accept, on_chosen, on_nack, on_own_promise, on_own_vote, on_prepare, on_promise, on_snapshot, on_voted, others, own_reports, propose, receive, released, replay, replayed_left, say, send, settle, stand, tell, turn, with_role, work_left}
+pub use Rattle.rex_cluster.specs.Calls.{Call, answer, answer_base, append, begin, best, choose, decide, elect, enough, follow, followed, has_last, heard, lead, leading, learned, led, logged, on_accept, on_chosen, on_nack, on_own_promise, on_own_vote, on_prepare, on_promise, on_snapshot, on_voted, others, own_reports, propose, receive, released, replay, replayed_left, say, send, settle, stand, tell, turn, with_role, work_left}
 pub use Rattle.rex_cluster.specs.Invariant.{Begins}
 pub use Rattle.rex_cluster.specs.Lanes.{CallHere, Here, active_only, cut, cut_lead, cut_live, cut_role, is_faithful, limits_between, value_at}
 pub use Rattle.rex_cluster.specs.Node.{Failure, Lead, Message, Role, Service, Work, down_node, is_active, no_work}

@@ -1,5 +1,6 @@
 -- A node that forgets the values up to its base does as the model's.
-use Rattle.rex_node.proofs.Common.{◌≡◌, ℕ, suc, ◌-◌, ◌<◌, ◌≤◌, Bool, true, false, cond, eqb, leb, ltb, List, [], ◌∷◌, ◌++◌, length, take, drop, Option, Some, None, refl, sym, ap, subst, ◌∙◌, arith, length-append, map, option_map, if◌then◌else◌, eqb-true, leb-true, leb-false, lt-ltb, ne_eqb, take-append-le, All-filter, Kept, IsValue, proposal_for, AcceptorValue, forgetting, ProposerValue, Declarations, StateValue, HasSpelling, IsDue, record_bytes, Answer, Rec, Proposal, base, from_on, known, offset, Failure, RoleFits, append, drop_known, say, Begins, Value, CallHere, log_of, proposal_in, standing_in, message_in, above_from, first_take, Draft, On, Down, armed_with, Appends, Fell, IsStuck, so_far, ActingValue, ActsFor, HasOpen, IsActing, IsProposer, IsResting, IsUp, NodeValue, count_of, here_of, knows, lead_of, open_of, role_of, whole, IsDown}
+use Rattle.rex_node.proofs.Common.{◌≡◌, ℕ, suc, ◌-◌, ◌<◌, ◌≤◌, Bool, true, false, cond, eqb, leb, ltb, List, [], ◌∷◌, ◌++◌, length, take, drop, Option, Some, None, refl, sym, ap, subst, ◌∙◌, arith, length-append, map, option_map, if◌then◌else◌, eqb-true, leb-true, leb-false, lt-ltb, ne_eqb, take-append-le, All-filter, Kept, IsValue, proposal_for, AcceptorValue, forgetting, ProposerValue, Declarations, StateValue, HasSpelling, IsDue, record_bytes, Answer, Rec, Proposal, base, from_on, known, offset, Failure, RoleFits, append, say, Begins, Value, CallHere, log_of, proposal_in, standing_in, message_in, above_from, first_take, Draft, On, Down, armed_with, Appends, Fell, IsStuck, so_far, ActingValue, ActsFor, HasOpen, IsActing, IsProposer, IsResting, IsUp, NodeValue, count_of, here_of, knows, lead_of, open_of, role_of, whole, IsDown}
+use Rattle.rex_cluster.specs.Calls.{drop_known}
 use Rattle.std.proofs.lemmas.List.{take-append-drop}
 use Rattle.rex_ballot.specs.Proposals.{above}
 use Rattle.rex_ballot.proofs.Lists.{find_kept}
@@ -20,7 +21,7 @@ use Rattle.rex_node.proofs.Votes.{found_instance}
 dropped_knows : {K : Type 0} {past : List Value} (y : NodeValue K) {k : ℕ} → y.offset ≤ k → k ≤ length (knows past y) → Begins (knows past y) past → knows past (dropped y k) ≡ knows past y
 dropped_knows {past} y {k} from to begins =
     ap (λ vs. vs ++ drop (k - y.offset) y.known) (first_take k past there ∙ front)
-    ∙ ap (λ vs. take k (knows past y) ++ vs) (sym (knowing.drop_known past y from))
+    ∙ ap (λ vs. take k (knows past y) ++ vs) (sym (knowing.knows_after past y from))
     ∙ take-append-drop k (knows past y)
   where
     there : k ≤ length past

@@ -12,14 +12,14 @@ pub many_known : {K : Type 0} (past : List Value) (x : NodeValue K) → length (
 many_known past x = length-append (first x.offset past) x.known ∙ ap (λ n. n + length x.known) (first_length x.offset past)
 
 -- past the offset it knows what it holds
-pub drop_known : {K : Type 0} (past : List Value) (x : NodeValue K) {n : ℕ} → x.offset ≤ n → drop n (knows past x) ≡ drop (n - x.offset) x.known
-drop_known past x {n} le =
+pub knows_after : {K : Type 0} (past : List Value) (x : NodeValue K) {n : ℕ} → x.offset ≤ n → drop n (knows past x) ≡ drop (n - x.offset) x.known
+knows_after past x {n} le =
     let e : n ≡ length (first x.offset past) + (n - x.offset) = let l = first_length x.offset past in omega (arith, le, l) in
     ap (λ m. drop m (knows past x)) e ∙ drop-append-add (first x.offset past) x.known (n - x.offset)
 
 -- those past the offset are those that it holds
 pub held_are : {K : Type 0} (past : List Value) (x : NodeValue K) → drop x.offset (knows past x) ≡ x.known
-held_are past x = drop_known past x {n = x.offset} (omega arith) ∙ ap (λ n. drop n x.known) (let n : x.offset - x.offset ≡ 0 = omega arith in n) ∙ all x.known
+held_are past x = knows_after past x {n = x.offset} (omega arith) ∙ ap (λ n. drop n x.known) (let n : x.offset - x.offset ≡ 0 = omega arith in n) ∙ all x.known
   where
     all : (vs : List Value) → drop 0 vs ≡ vs
     all [] = refl

@@ -1,11 +1,11 @@
 -- A call under which no append fails doesn't report that its node is down.
-use Rattle.rex_node.proofs.Common.{◌≡◌, ℕ, zero, suc, Bool, true, false, cond, ◌⊎◌, List, [], ◌∷◌, ◌++◌, length, Option, Some, None, refl, sym, subst, inl, inr, map, ◌==◌, nat_lt, nat_le, Event, Declarations, Effect, Rec, Proposal, promise, accepted, offset, known, is_in, is_majority, Service, Lead, Role, Failure, Prepare, Promise, Accept, Voted, Chose, Nack, Snapshot, Follower, IsAmong, Value, release_effect, service_of, CallHere, active_only, cut_live, cut_lead, cut_role, cut, Call, say, follow, followed, append, logged, propose, released, decide, best, choose, lead, turn, settle, enough, own_reports, stand, elect, on_prepare, heard, on_own_promise, on_promise, has_last, on_accept, on_own_vote, on_voted, on_chosen, on_nack, on_snapshot, drop_known, receive}
+use Rattle.rex_node.proofs.Common.{◌≡◌, ℕ, zero, suc, Bool, true, false, cond, ◌⊎◌, List, [], ◌∷◌, ◌++◌, length, Option, Some, None, refl, sym, subst, inl, inr, map, ◌==◌, nat_lt, nat_le, Event, Declarations, Effect, Rec, Proposal, promise, accepted, offset, known, is_in, is_majority, Service, Lead, Role, Failure, Prepare, Promise, Accept, Voted, Chose, Nack, Snapshot, Follower, IsAmong, Value, release_effect, service_of, CallHere, active_only, cut_live, cut_lead, cut_role, cut, Call, say, follow, followed, append, logged, propose, released, decide, best, choose, lead, turn, settle, enough, own_reports, stand, elect, on_prepare, heard, on_own_promise, on_promise, has_last, on_accept, on_own_vote, on_voted, on_chosen, on_nack, on_snapshot, receive}
+use Rattle.rex_cluster.specs.Calls.{drop_known, voted}
 use Rattle.rex_record.specs.declared.recorder.Release.{Release}
 use Rattle.rex_report.specs.declared.effect.Effect.TheVariants as effect
 use Rattle.rex_cluster.specs.Node.{Content, role_name}
 use Rattle.rex_cluster.specs.Node.Content.{Ask}
 use Rattle.rex_cluster.specs.Node.Role.{Leads}
-use Rattle.rex_cluster.specs.Calls.{voted}
 use Rattle.rex_cluster.proofs.Saying.{among_either}
 
 -- ---- effects

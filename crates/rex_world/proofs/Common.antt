@@ -15,7 +15,7 @@ pub use Rattle.std.specs.Vec.{with_item}
 pub use Rattle.std.specs.Vec.Iter.{into_iter_items}
 pub use Rattle.rex_ballot.specs.Limits.{most_nodes}
 pub use Rattle.rex_cluster.specs.Agreed.{agreed, longer_of, longest}
-pub use Rattle.rex_cluster.specs.Calls.{append, ask, begin, checkpoint, drop_known, elect, migrate, receive, replay, say, start, stop}
+pub use Rattle.rex_cluster.specs.Calls.{append, ask, begin, checkpoint, elect, migrate, receive, replay, say, start, stop}
 pub use Rattle.rex_cluster.specs.Invariant.{Begins, IsIn}
 pub use Rattle.rex_cluster.specs.Lanes.{CallHere, Here, active_only, cut, live_state, submit_request}
 pub use Rattle.rex_cluster.specs.Node.{Content, Failure, Lead, Message, Role, Service, is_active, kind_of, role_name}

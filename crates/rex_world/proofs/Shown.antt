@@ -1,5 +1,6 @@
 -- Replies are released by nodes that are up and active, and there stays a number for each client.
-use Rattle.rex_world.proofs.Common.{◌≡◌, ℕ, zero, suc, ◌<◌, Bool, true, false, cond, List, [], ◌∷◌, length, get_or, Option, Some, None, refl, sym, subst, ◌∙◌, inl, inr, arith, length-set, ◌==◌, nat_lt, slice_get, slice_index_or, All, Request, Declarations, IsService, IsChecked, RequestFits, Effect, StateValue, Version, Rec, base, Content, Failure, Service, is_active, After, append, ask, begin, checkpoint, drop_known, elect, receive, replay, say, start, stop, Value, service_of, Here, CallHere, active_only, cut, submit_request, seen_by_release, seen_by_releases, IsAmong, AreReleased}
+use Rattle.rex_world.proofs.Common.{◌≡◌, ℕ, zero, suc, ◌<◌, Bool, true, false, cond, List, [], ◌∷◌, length, get_or, Option, Some, None, refl, sym, subst, ◌∙◌, inl, inr, arith, length-set, ◌==◌, nat_lt, slice_get, slice_index_or, All, Request, Declarations, IsService, IsChecked, RequestFits, Effect, StateValue, Version, Rec, base, Content, Failure, Service, is_active, After, append, ask, begin, checkpoint, elect, receive, replay, say, start, stop, Value, service_of, Here, CallHere, active_only, cut, submit_request, seen_by_release, seen_by_releases, IsAmong, AreReleased}
+use Rattle.rex_cluster.specs.Calls.{drop_known}
 use Rattle.std.proofs.Common.{max}
 use Rattle.std.proofs.lemmas.Bool.{false≢true}
 use Rattle.rex_report.specs.declared.effect.Effect.TheVariants as effect

@@ -1,12 +1,12 @@
 -- A call of the model that appends nothing is the same where its next append will fail, and leaves that so.
-use Rattle.rex_world.proofs.Common.{◌≡◌, ◌≤◌, ◌⊎◌, ℕ, zero, suc, Bool, true, false, cond, List, [], ◌∷◌, length, Option, Some, None, refl, ap, ◌∙◌, inl, inr, arith, le_refl, ◌==◌, nat_lt, nat_le, Event, Effect, Declarations, Rec, Proposal, promise, offset, known, base, Version, Service, Content, Lead, Role, Failure, is_active, Promise, Accept, Ask, Follower, Leads, Value, service_of, if_active, CallHere, active_only, cut, ask, begin, append, elect, receive, replay, checkpoint, drop_known, migrate}
+use Rattle.rex_world.proofs.Common.{◌≡◌, ◌≤◌, ◌⊎◌, ℕ, zero, suc, Bool, true, false, cond, List, [], ◌∷◌, length, Option, Some, None, refl, ap, ◌∙◌, inl, inr, arith, le_refl, ◌==◌, nat_lt, nat_le, Event, Effect, Declarations, Rec, Proposal, promise, offset, known, base, Version, Service, Content, Lead, Role, Failure, is_active, Promise, Accept, Ask, Follower, Leads, Value, service_of, if_active, CallHere, active_only, cut, ask, begin, append, elect, receive, replay, checkpoint, migrate}
+use Rattle.rex_cluster.specs.Calls.{drop_known, Call, logged, propose, decide, choose, lead, turn, settle, enough, own_reports, stand, on_prepare, heard, on_own_promise, on_promise, has_last, on_accept, voted, on_own_vote, on_voted, on_chosen, on_nack, on_snapshot}
 use Rattle.rex_cluster.specs.Records.{accepted}
 use Rattle.rex_cluster.specs.Records.Rec.{Promised, Accepted, Checkpoint}
 use Rattle.rex_cluster.specs.Quorum.{is_in, is_majority}
 use Rattle.rex_cluster.specs.Node.{Node}
 use Rattle.rex_cluster.specs.Node.Content.{Prepare, Accepted as Voted, Chosen as Chose, Nack, Snapshot}
 use Rattle.rex_cluster.specs.Lanes.{cut_live, cut_lead, cut_role}
-use Rattle.rex_cluster.specs.Calls.{Call, logged, propose, decide, choose, lead, turn, settle, enough, own_reports, stand, on_prepare, heard, on_own_promise, on_promise, has_last, on_accept, voted, on_own_vote, on_voted, on_chosen, on_nack, on_snapshot}
 
 -- the call where this append of its node will fail
 abbrev pub armed_as : {V S : Type 0} → Option Failure → Call V S → Call V S

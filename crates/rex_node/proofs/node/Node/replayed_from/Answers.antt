@@ -1,7 +1,7 @@
 use Rattle.rex_node.proofs.Common.{◌≡◌, ◌-◌, drop, sym, ap, subst, ◌∙◌, arith, count_of}
 use Rattle.std.proofs.Common.{IfOk}
 use Rattle.std.specs.Prelude.{Some}
-use Rattle.rex_node.proofs.Knows.{drop_known, many_known}
+use Rattle.rex_node.proofs.Knows.{knows_after, many_known}
 use Rattle.rex_node.proofs.ReplayLemmas.{from_sound, rest_runs, rest_runs_to}
 use Rattle.rex_node.proofs.node.Node.replayed_from.Goals as goal
 
@@ -16,11 +16,11 @@ replay_values-requires-clause-sound g c = from_sound c.requires.node c.requires.
 
 pub replay_values-requires-clause-runs : goal.replay_values-requires-clause-runs
 replay_values-requires-clause-runs g c = rest_runs c.requires.node c.requires.up c.args.count c.requires.from (c.after-rest.ensures ∙ ap (λ x. drop (c.args.count - x.offset) x.known) c.self.view_is
-    ∙ sym (drop_known g.P.Past.past c.args.self.now c.requires.held))
+    ∙ sym (knows_after g.P.Past.past c.args.self.now c.requires.held))
 
 pub returns : goal.returns
 returns g c = record {
   runs = subst (λ o. IfOk c.replay_values.result (λ s. o ≡ Some s))
       (rest_runs_to c.requires.node c.requires.up c.args.count c.requires.from (c.after-rest.ensures ∙ ap (λ x. drop (c.args.count - x.offset) x.known) c.self.view_is
-      ∙ sym (drop_known g.P.Past.past c.args.self.now c.requires.held))) c.replay_values.ensures.runs;
+      ∙ sym (knows_after g.P.Past.past c.args.self.now c.requires.held))) c.replay_values.ensures.runs;
 }
