@@ -1,11 +1,11 @@
 -- How a call that came to its end answers, and what it leaves.
-use Rattle.rex_node.proofs.Common.{◌≡◌, ℕ, ◌<◌, ◌≤◌, true, ◌⊎◌, inl, inr, List, [], ◌∷◌, ◌++◌, length, Result, Ok, Err, Option, Some, None, refl, sym, ap, subst, ◌∙◌, arith, length-append, map, IfOk, OnErr, false≢true, same_Some, AllocError, most_nodes, Declarations, Effect, Answer, Failed, down_node, After, IsAmong, begin, Value, CallHere, Going, On, Down, Refusal, Draft, Step, message_in, log_of, HasDecoded, NodeValue, IsUp, IsResting, IsSame, Stands, StaysResting, fallen, here_of, whole, Does, EndsDown, StopsShort, armed_with, call_of, last_of, BreaksOff, Ends, Finishes, IsStuck, Leads, so_far}
+use Rattle.rex_node.proofs.Common.{◌≡◌, ℕ, ◌<◌, ◌≤◌, true, ◌⊎◌, inl, inr, List, [], ◌∷◌, ◌++◌, length, Result, Ok, Err, Some, None, refl, sym, ap, subst, ◌∙◌, arith, length-append, map, IfOk, OnErr, false≢true, same_Some, AllocError, most_nodes, Declarations, Effect, Answer, Failed, down_node, After, IsAmong, begin, Value, CallHere, Going, On, Down, Refusal, Draft, Step, message_in, log_of, HasDecoded, NodeValue, IsUp, IsResting, IsSame, Stands, StaysResting, fallen, here_of, whole, Does, EndsDown, StopsShort, armed_with, call_of, last_of, BreaksOff, Ends, Finishes, IsStuck, Leads, so_far}
 use Rattle.std.proofs.lemmas.List.{append_cancel_left}
 use Rattle.rex_msg.specs.declared.message.Message.{Message}
 use Rattle.rex_report.specs.declared.effect.Effect.TheVariants as effect
 use Rattle.rex_traits.specs.Chains.{AppendsInTurn}
 use Rattle.rex_log.specs.Log.{first as front_of}
-use Rattle.rex_node.specs.Calls.{IsGivenUp, Leaves, Refuses}
+use Rattle.rex_node.specs.Calls.{IsGivenUp, Leaves}
 use Rattle.rex_node.proofs.Appended.{IsLogged, call_at, Beside, logged_of, beside_of, up_of}
 use Rattle.rex_node.proofs.Grows.{later_none}
 use Rattle.rex_node.proofs.Quiet.{IsQuiet}
@@ -72,8 +72,8 @@ module _ {K : Type 0} (records : K → List (List ℕ)) (gives : K → List ℕ 
   call_well : Leads records gives faults service call (λ d. d) x.keeper y.keeper (so_far records service past x first) (so_far records service past y draft) → call (so_far records service past x first) ≡ so_far records service past y draft
   call_well l = ap (λ f. call (armed_with f (so_far records service past x first))) (sym (later_none l.written)) ∙ l.comes None
 
-  pub told : (end : Result Going AllocError) (result : Result Step Refusal) → HasCome end result → IfOk result (Does records gives faults service past call x z)
-  told (Ok On) (Ok step) h =
+  told_in : (end : Result Going AllocError) (result : Result Step Refusal) → HasCome end result → IfOk result (Does records gives faults service past call x z)
+  told_in (Ok On) (Ok step) h =
       let l = h.ends.0.0 in
       inl (record {
         written = l.written;
@@ -84,7 +84,7 @@ module _ {K : Type 0} (records : K → List (List ℕ)) (gives : K → List ℕ 
         many = ap (λ n. length (log_of service past (records n.keeper))) h.finishes.0 ∙ l.many;
         is = ap call (sym (begins records service past x first h.effects h.sends)) ∙ call_well l ∙ comes_to h.finishes.0 h.finishes.1 h.finishes.2;
       })
-  told (Ok Down) (Ok step) h =
+  told_in (Ok Down) (Ok step) h =
       let f = h.ends.0.0.fails in
       inr (record {
         written = f.written;
@@ -99,11 +99,11 @@ module _ {K : Type 0} (records : K → List (List ℕ)) (gives : K → List ℕ 
         many = ap (λ n. length (log_of service past (records n.keeper))) h.finishes.0 ∙ f.many;
         is = ap (λ d. call (armed_with (Some (After (length f.written) f.kept)) d)) (sym (begins records service past x first h.effects h.sends)) ∙ f.is ∙ comes_to h.finishes.0 h.finishes.1 h.finishes.2;
       })
-  told end (Err refusal) h = tt
-  told (Err e) (Ok step) h = absurd h.finishes
+  told_in end (Err refusal) h = tt
+  told_in (Err e) (Ok step) h = absurd h.finishes
 
-  pub down : (end : Result Going AllocError) (result : Result Step Refusal) → HasCome end result → IsQuiet (call (begin (here_of records service past x))).effects → IfOk result (EndsDown x.id (faults x.keeper) (faults z.keeper) z.up)
-  down (Ok On) (Ok step) h quiet =
+  down_in : (end : Result Going AllocError) (result : Result Step Refusal) → HasCome end result → IsQuiet (call (begin (here_of records service past x))).effects → IfOk result (EndsDown x.id (faults x.keeper) (faults z.keeper) z.up)
+  down_in (Ok On) (Ok step) h quiet =
       let l = h.ends.0.0 in
       let same : faults z.keeper ≡ faults x.keeper = ap (λ n. faults n.keeper) h.finishes.0 ∙ l.counted in
       let effects : (call (begin (here_of records service past x))).effects ≡ step.effects = ap (λ d. d.effects) (ap call (sym (begins records service past x first h.effects h.sends)) ∙ call_well l) ∙ sym h.finishes.1 in
@@ -113,7 +113,7 @@ module _ {K : Type 0} (records : K → List (List ℕ)) (gives : K → List ℕ 
         quiet = λ more. absurd (omega arith);
         falls = λ more. absurd (omega arith);
       }
-  down (Ok Down) (Ok step) h quiet =
+  down_in (Ok Down) (Ok step) h quiet =
       let f = h.ends.0.0 in
       record {
         down = λ more. ap last_of (h.finishes.1 ∙ f.told) ∙ last_push f.front;
@@ -121,8 +121,8 @@ module _ {K : Type 0} (records : K → List (List ℕ)) (gives : K → List ℕ 
         quiet = λ more. h.finishes.2 ∙ no_messages past _ f.quiet;
         falls = λ more. ap (λ n. n.up) h.finishes.0 ∙ h.ends.0.1.down;
       }
-  down end (Err refusal) h quiet = tt
-  down (Err e) (Ok step) h quiet = absurd h.finishes
+  down_in end (Err refusal) h quiet = tt
+  down_in (Err e) (Ok step) h quiet = absurd h.finishes
 
   -- where memory was short nothing has changed, or the call has broken off and the node has fallen
   short : IsStuck records gives faults service past call x y first → before ≡ length (records x.keeper) → (before < length (records y.keeper) → z ≡ fallen y) → (length (records y.keeper) ≤ before → z ≡ y)
@@ -158,17 +158,11 @@ module _ {K : Type 0} (records : K → List (List ℕ)) (gives : K → List ℕ 
         rests = λ t. absurd (false≢true t);
       }
 
-  pub kept : (end : Result Going AllocError) (result : Result Step Refusal) → HasCome end result → StaysResting records service past x z
-  kept (Ok going) (Ok step) h = subst (StaysResting records service past x) (sym h.finishes.0) (record { same = h.same; kept = h.ends.1 })
-  kept (Ok going) (Err refusal) h = absurd h.finishes
-  kept (Err e) (Ok step) h = absurd h.finishes
-  kept (Err e) (Err refusal) h = kept_short h.node h.same (short h.stuck h.many h.finishes.1 h.finishes.2)
-
-  -- nothing but want of memory is a reason not to do it
-  pub refused : (end : Result Going AllocError) (result : Result Step Refusal) → HasCome end result → {due : Option Refusal} → due ≡ None → Refuses due result
-  refused end (Ok step) h e = subst (λ o. Refuses {A = Step} o (Ok step)) (sym e) tt
-  refused (Ok going) (Err refusal) h e = absurd h.finishes
-  refused (Err a) (Err refusal) h e = subst (λ o. Refuses {A = Step} o (Err refusal)) (sym e) h.finishes.0
+  kept_in : (end : Result Going AllocError) (result : Result Step Refusal) → HasCome end result → StaysResting records service past x z
+  kept_in (Ok going) (Ok step) h = subst (StaysResting records service past x) (sym h.finishes.0) (record { same = h.same; kept = h.ends.1 })
+  kept_in (Ok going) (Err refusal) h = absurd h.finishes
+  kept_in (Err e) (Ok step) h = absurd h.finishes
+  kept_in (Err e) (Err refusal) h = kept_short h.node h.same (short h.stuck h.many h.finishes.1 h.finishes.2)
 
 -- ---- the same of a node that holds but some of the values
 
@@ -186,13 +180,31 @@ stands_own {records} {faults} past {x} {z} s = record {
 
 -- what a call leaves that came to its end
 module _ {K : Type 0} (records : K → List (List ℕ)) (gives : K → List ℕ → Answer → K → Type 0) (faults : K → ℕ) (service : Declarations) (past : List Value) (call : CallHere → CallHere) (x y z : NodeValue K) (before : ℕ) (start draft : Draft) where
-  pub left : (end : Result Going AllocError) (result : Result Step Refusal) → HasCome records gives faults service past call (whole past x) y (whole past z) before start draft end result → Leaves records gives faults service past call result x z
-  left end (Ok step) h = tt
-  left (Ok going) (Err refusal) h = absurd h.finishes
-  left (Err e) (Err refusal) h =
+  left_in : (end : Result Going AllocError) (result : Result Step Refusal) → HasCome records gives faults service past call (whole past x) y (whole past z) before start draft end result → Leaves records gives faults service past call result x z
+  left_in end (Ok step) h = tt
+  left_in (Ok going) (Err refusal) h = absurd h.finishes
+  left_in (Err e) (Err refusal) h =
       subst (λ r. Leaves {A = Step} records gives faults service past call (Err r) x z) (sym h.finishes.0)
       (by (left_short records gives faults service past call _ y _ before start draft h))
     where
       by : Stands records faults gives (whole past x) (whole past z) ⊎ IsGivenUp records gives faults service past call (whole past x) (whole past z) → Stands records faults gives x z ⊎ IsGivenUp records gives faults service past call x z
       by (inl s) = inl (stands_own past s)
       by (inr g) = inr (record { stops = g.stops; down = g.down })
+
+-- ---- the same of a call that is known to have come to its end
+
+module _ {K : Type 0} {records : K → List (List ℕ)} {gives : K → List ℕ → Answer → K → Type 0} {faults : K → ℕ} {service : Declarations} {past : List Value} {call : CallHere → CallHere} {x y z : NodeValue K} {before : ℕ} {first draft : Draft} {end : Result Going AllocError} {result : Result Step Refusal}
+    (come : HasCome records gives faults service past call x y z before first draft end result) where
+  pub told : IfOk result (Does records gives faults service past call x z)
+  told = told_in _ _ _ _ _ _ _ _ _ _ _ _ end result come
+
+  pub down : IsQuiet (call (begin (here_of records service past x))).effects → IfOk result (EndsDown x.id (faults x.keeper) (faults z.keeper) z.up)
+  down = down_in _ gives _ _ _ _ _ _ _ _ _ _ end result come
+
+  pub kept : StaysResting records service past x z
+  kept = kept_in _ gives faults _ _ call _ y _ before first draft end result come
+
+-- where the node holds but some of the values
+pub left : {K : Type 0} {records : K → List (List ℕ)} {gives : K → List ℕ → Answer → K → Type 0} {faults : K → ℕ} {service : Declarations} {past : List Value} {call : CallHere → CallHere} (x z : NodeValue K) {y : NodeValue K} {before : ℕ} {start draft : Draft} {end : Result Going AllocError} {result : Result Step Refusal}
+    → HasCome records gives faults service past call (whole past x) y (whole past z) before start draft end result → Leaves records gives faults service past call result x z
+left x z come = left_in _ _ _ _ _ _ x _ z _ _ _ _ _ come

@@ -42,28 +42,20 @@ come g c = record {
 
 pub returns-clause-told : goal.returns-clause-told
 returns-clause-told g c =
-    told _ _ _ _ _
-    _
-    _ (whole g.P.Past.past c.propose_piece-end.new.self) _ c.len-before.result c.new-draft.result c.propose_piece-end.new.draft _ _ (come g c)
+    told (come g c)
 
 pub returns-clause-down : goal.returns-clause-down
 returns-clause-down g c =
-    down _ g.K.Keeper.append_gives _ _ _
-    _
-    _ (whole g.P.Past.past c.propose_piece-end.new.self) _ c.len-before.result c.new-draft.result c.propose_piece-end.new.draft _ _ (come g c)
+    down (come g c)
     (cut_well c.args.svc.now c.args.self.now.seed c.args.self.now.nodes c.args.self.now.id (counts_for c.args.svc.now (here_of g.K.Keeper.records c.args.svc.now g.P.Past.past (whole g.P.Past.past c.args.self.now)) (option_copied c.args.limits)) (begin (here_of g.K.Keeper.records c.args.svc.now g.P.Past.past (whole g.P.Past.past c.args.self.now))) (record { armed = refl; quiet = λ id h. absurd h })).quiet
 
 pub returns-clause-left : goal.returns-clause-left
 returns-clause-left g c =
-    left _ _ _ _ _
-    _
-    _ _ _ _ _ _ _ _ (come g c)
+    left _ _ (come g c)
 
 pub returns-clause-kept : goal.returns-clause-kept
 returns-clause-kept g c =
-    kept _ g.K.Keeper.append_gives g.K.Keeper.faults _ _
-    (cut c.args.svc.now c.args.self.now.seed c.args.self.now.nodes c.args.self.now.id (counts_for c.args.svc.now (here_of g.K.Keeper.records c.args.svc.now g.P.Past.past (whole g.P.Past.past c.args.self.now)) (option_copied c.args.limits)))
-    _ (whole g.P.Past.past c.propose_piece-end.new.self) _ c.len-before.result c.new-draft.result c.propose_piece-end.new.draft _ _ (come g c)
+    kept (come g c)
 
 pub returns-clause-tells : goal.returns-clause-tells
 returns-clause-tells g c =

@@ -20,15 +20,15 @@ come g c = record {
 }
 
 pub returns-clause-told : goal.returns-clause-told
-returns-clause-told g c = told _ _ _ _ _ _ _ (whole g.P.Past.past c.drop_to_base-end.new.self) _ c.len-before.result c.new-draft.result c.drop_to_base-end.new.draft _ _ (come g c)
+returns-clause-told g c = told (come g c)
 
 pub returns-clause-down : goal.returns-clause-down
 returns-clause-down g c =
-    down g.K.Keeper.records g.K.Keeper.append_gives g.K.Keeper.faults c.args.svc.now g.P.Past.past (calls.drop_known c.args.self.now.id) (whole g.P.Past.past c.args.self.now) (whole g.P.Past.past c.drop_to_base-end.new.self) (whole g.P.Past.past c.finish.new.self) c.len-before.result c.new-draft.result c.drop_to_base-end.new.draft c.drop_to_base-end.result c.finish.result (come g c)
+    down (come g c)
     (dropped_well c.args.self.now.nodes (service_of c.args.svc.now c.args.self.now.seed) c.args.self.now.id (replies_quiet c.args.svc.now c.args.self.now.seed) (calls.begin (here_of g.K.Keeper.records c.args.svc.now g.P.Past.past c.args.self.now)) (record { armed = refl; quiet = λ id h. h })).quiet
 
 pub returns-clause-left : goal.returns-clause-left
-returns-clause-left g c = left _ _ _ _ _ _ _ _ _ _ _ _ _ _ (come g c)
+returns-clause-left g c = left _ _ (come g c)
 
 pub returns-clause-kept : goal.returns-clause-kept
-returns-clause-kept g c = kept _ g.K.Keeper.append_gives g.K.Keeper.faults _ _ (calls.drop_known c.args.self.now.id) _ (whole g.P.Past.past c.drop_to_base-end.new.self) _ c.len-before.result c.new-draft.result c.drop_to_base-end.new.draft _ _ (come g c)
+returns-clause-kept g c = kept (come g c)

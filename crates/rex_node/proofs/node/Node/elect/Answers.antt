@@ -7,30 +7,26 @@ use Rattle.rex_node.proofs.node.Node.elect.Goals as goal
 
 pub returns-clause-told : goal.returns-clause-told
 returns-clause-told g c =
-    ending.told _ _ _ _ _ _ _ (whole g.P.Past.past c.stand-end.new.self) _ c.len-before.result c.new-draft.result c.stand-end.new.draft _ _
-    (elected _ _ _ _ _ _ _ _ _ _ _
+    ending.told (elected _ _ _ _ _ _ _ _ _ _ c.stand-end.new.draft
     c.requires.node (sym c.up_refusal.ensures ∙ c.in_default.is) (c.len-before.ensures ∙ ap (λ n. length (g.K.Keeper.records n.keeper)) c.self.view_is) c.new-draft.ensures.effects c.new-draft.ensures.sends
     c.stand-end.ensures.ends c.stand-end.ensures.stuck c.stand-end.ensures.same c.finish.ensures)
 
 pub returns-clause-down : goal.returns-clause-down
 returns-clause-down g c =
-    ending.down _ g.K.Keeper.append_gives _ _ _ _ _ (whole g.P.Past.past c.stand-end.new.self) _ c.len-before.result c.new-draft.result c.stand-end.new.draft _ _
-    (elected _ _ _ _ _ _ _ _ _ _ _
+    ending.down (elected _ _ _ _ _ _ _ _ _ _ c.stand-end.new.draft
     c.requires.node (sym c.up_refusal.ensures ∙ c.in_default.is) (c.len-before.ensures ∙ ap (λ n. length (g.K.Keeper.records n.keeper)) c.self.view_is) c.new-draft.ensures.effects c.new-draft.ensures.sends
     c.stand-end.ensures.ends c.stand-end.ensures.stuck c.stand-end.ensures.same c.finish.ensures)
     (elect_quiet g.K.Keeper.records g.K.Keeper.append_gives g.K.Keeper.faults c.args.svc.now g.P.Past.past (whole g.P.Past.past c.args.self.now) (whole g.P.Past.past c.stand-end.new.self) (whole g.P.Past.past c.finish.new.self) c.len-before.result c.new-draft.result c.stand-end.new.draft)
 
 pub returns-clause-left : goal.returns-clause-left
 returns-clause-left g c =
-    ending.left _ _ _ _ _ _ _ _ _ _ _ _ _ _
-    (elected _ _ _ _ _ _ _ _ _ _ c.stand-end.new.draft
+    ending.left _ _ (elected _ _ _ _ _ _ _ _ _ _ c.stand-end.new.draft
     c.requires.node (sym c.up_refusal.ensures ∙ c.in_default.is) (c.len-before.ensures ∙ ap (λ n. length (g.K.Keeper.records n.keeper)) c.self.view_is) c.new-draft.ensures.effects c.new-draft.ensures.sends
     c.stand-end.ensures.ends c.stand-end.ensures.stuck c.stand-end.ensures.same c.finish.ensures)
 
 pub returns-clause-kept : goal.returns-clause-kept
 returns-clause-kept g c =
-    ending.kept _ g.K.Keeper.append_gives g.K.Keeper.faults _ _ (elect c.args.self.now.nodes (service_of c.args.svc.now c.args.self.now.seed) c.args.self.now.id) _ (whole g.P.Past.past c.stand-end.new.self) _ c.len-before.result c.new-draft.result c.stand-end.new.draft _ _
-    (elected _ _ _ _ _ _ _ _ _ _ _
+    ending.kept (elected _ _ _ _ _ _ _ _ _ _ c.stand-end.new.draft
     c.requires.node (sym c.up_refusal.ensures ∙ c.in_default.is) (c.len-before.ensures ∙ ap (λ n. length (g.K.Keeper.records n.keeper)) c.self.view_is) c.new-draft.ensures.effects c.new-draft.ensures.sends
     c.stand-end.ensures.ends c.stand-end.ensures.stuck c.stand-end.ensures.same c.finish.ensures)
 

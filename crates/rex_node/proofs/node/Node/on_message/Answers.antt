@@ -31,18 +31,18 @@ receive-end-requires-clause-runs g c =
     c.requires.runs
 
 pub returns-clause-told : goal.returns-clause-told
-returns-clause-told g c = told _ _ _ _ _ _ _ (whole g.P.Past.past c.receive-end.new.self) _ c.len-before.result c.new-draft.result c.receive-end.new.draft _ _ (come g c)
+returns-clause-told g c = told (come g c)
 
 pub returns-clause-down : goal.returns-clause-down
 returns-clause-down g c =
-    down g.K.Keeper.records g.K.Keeper.append_gives g.K.Keeper.faults c.args.svc.now g.P.Past.past (call g c) (whole g.P.Past.past c.args.self.now) (whole g.P.Past.past c.receive-end.new.self) (whole g.P.Past.past c.finish.new.self) c.len-before.result c.new-draft.result c.receive-end.new.draft c.receive-end.result c.finish.result (come g c)
+    down (come g c)
     (receive_well c.args.self.now.nodes (service_of c.args.svc.now c.args.self.now.seed) c.args.self.now.id (replies_quiet c.args.svc.now c.args.self.now.seed) c.args.message.now.from (content_in g.P.Past.past c.args.message.now.content) _ (record { armed = refl; quiet = λ id h. h })).quiet
 
 pub returns-clause-left : goal.returns-clause-left
-returns-clause-left g c = left _ _ _ _ _ _ _ _ _ _ _ _ _ _ (come g c)
+returns-clause-left g c = left _ _ (come g c)
 
 pub returns-clause-kept : goal.returns-clause-kept
-returns-clause-kept g c = kept _ g.K.Keeper.append_gives g.K.Keeper.faults _ _ (call g c) _ (whole g.P.Past.past c.receive-end.new.self) _ c.len-before.result c.new-draft.result c.receive-end.new.draft _ _ (come g c)
+returns-clause-kept g c = kept (come g c)
 
 pub returns-in-Some-clause-taken : goal.returns-in-Some-clause-taken
 returns-in-Some-clause-taken g c = none_kept _ _
