@@ -1,8 +1,8 @@
 -- Proposals by instance are in the model what they are at an acceptor.
-use Rattle.rex_node.proofs.Common.{◌≡◌, ℕ, ◌+◌, ◌<◌, ◌≤◌, Bool, true, false, cond, ◌||◌, eqb, ltb, leb, List, [], ◌∷◌, ◌++◌, Some, refl, sym, ap, ◌∙◌, arith, ltb-true, map, eqb-false, le-leb, leb-false, lt-ltb, ne_eqb, Kept, from_instance, proposal_for, is_of_ballot, Proposal, placed, from_on, has_last, Value, proposal_in}
-use Rattle.std.proofs.Common.{eqb-true, ltb-false}
-use Rattle.rex_ballot.specs.Proposals.{AreRising, below, above, with_proposal}
-use Rattle.rex_ballot.proofs.Lists.{rising_less, below_none}
+use Rattle.rex_node.proofs.Common.{◌≡◌, ℕ, ◌+◌, ◌<◌, ◌≤◌, Bool, true, false, cond, ◌||◌, eqb, ltb, leb, List, [], ◌∷◌, Some, refl, sym, ap, ◌∙◌, arith, ltb-true, map, le-leb, leb-false, ne_eqb, Kept, from_instance, proposal_for, is_of_ballot, Proposal, placed, from_on, has_last, Value, proposal_in}
+use Rattle.std.proofs.Common.{eqb-true}
+use Rattle.rex_ballot.specs.Proposals.{AreRising}
+use Rattle.rex_ballot.proofs.Lists.{rising_less}
 use Rattle.rex_cluster.specs.Ranges as ranges
 
 -- instances that rise in the model rise at an acceptor
@@ -12,35 +12,6 @@ rising_kept least (p ∷ ps) h = (let first = h.0 in omega arith, rising_kept _ 
 
 pub rising_zero : (ps : List Kept) → ranges.AreRising 0 (map proposal_in ps) → AreRising 0 ps
 rising_zero ps h = rising_less 0 1 ps (omega arith) (rising_kept 0 ps h)
-
--- all are above a lower instance
-above_all : (instance least : ℕ) (ps : List Kept) → instance < least → AreRising least ps → above instance ps ≡ ps
-above_all instance least [] l h = refl
-above_all instance least (p ∷ ps) l h =
-    let first = h.0 in
-    rw (lt-ltb instance p.instance (omega arith)) (ap (λ qs. p ∷ qs) (above_all instance (p.instance + 1) ps (omega arith) h.1))
-
--- a proposal takes the same place
-pub placed_kept : (least : ℕ) (ps : List Kept) (p : Kept) → AreRising least ps → map proposal_in (with_proposal ps p) ≡ placed (proposal_in p) (map proposal_in ps)
-placed_kept least [] p h = refl
-placed_kept least (q ∷ qs) p h = by (eqb p.instance q.instance) refl (ltb p.instance q.instance) refl (ltb q.instance p.instance) refl (placed_kept (q.instance + 1) qs p h.1)
-  where
-    by : (same : Bool) → eqb p.instance q.instance ≡ same → (less : Bool) → ltb p.instance q.instance ≡ less → (more : Bool) → ltb q.instance p.instance ≡ more
-        → map proposal_in (with_proposal qs p) ≡ placed (proposal_in p) (map proposal_in qs)
-        → map proposal_in (cond more (q ∷ below p.instance qs) (below p.instance qs) ++ p ∷ cond less (q ∷ above p.instance qs) (above p.instance qs))
-        ≡ cond same (proposal_in p ∷ map proposal_in qs) (cond less (proposal_in p ∷ proposal_in q ∷ map proposal_in qs) (proposal_in q ∷ placed (proposal_in p) (map proposal_in qs)))
-    by true s less l true m ih = absurd (let e = eqb-true p.instance q.instance s in let n = ltb-true q.instance p.instance m in omega arith)
-    by true s true l false m ih = absurd (let e = eqb-true p.instance q.instance s in let n = ltb-true p.instance q.instance l in omega arith)
-    by true s false l false m ih =
-        let e = eqb-true p.instance q.instance s in
-        rw (below_none p.instance (q.instance + 1) qs (omega arith) h.1) (rw (above_all p.instance (q.instance + 1) qs (omega arith) h.1) refl)
-    by false s true l true m ih = absurd (let e = ltb-true p.instance q.instance l in let n = ltb-true q.instance p.instance m in omega arith)
-    by false s true l false m ih =
-        let e = ltb-true p.instance q.instance l in
-        rw (below_none p.instance (q.instance + 1) qs (omega arith) h.1) (rw (above_all p.instance (q.instance + 1) qs (omega arith) h.1) refl)
-    by false s false l true m ih = ap (λ rs. proposal_in q ∷ rs) ih
-    by false s false l false m ih =
-        absurd (let d = eqb-false p.instance q.instance s in let e = ltb-false p.instance q.instance l in let n = ltb-false q.instance p.instance m in omega (arith, d))
 
 -- those of an instance and later ones are the same
 pub from_kept : (first : ℕ) (ps : List Kept) → map proposal_in (from_instance first ps) ≡ from_on first (map proposal_in ps)

@@ -121,11 +121,12 @@ Finishes records before draft (Err e) old new (Ok step) = ⊥
 Finishes records before draft (Err e) old new (Err refusal) =
     (refusal ≡ why.OutOfMemory) × (before < length (records old.keeper) → new ≡ fallen old) × (length (records old.keeper) ≤ before → new ≡ old)
 
--- so many turns of the model are enough: two for each proposal that was reported past what the node knows, and one
+-- how many of these proposals are for instances past those that are known
 abbrev pub above : ℕ → List Kept → ℕ
 above known [] = 0
 above known (p ∷ ps) = if nat_lt known p.instance then suc (above known ps) else above known ps
 
+-- so many turns of the model are enough: two for each proposal that was reported past what the node knows, and one
 abbrev pub HasTurns : {K : Type 0} → NodeValue K → ℕ → Type 0
 HasTurns x turns = IfSome x.proposer (λ (p : ProposerValue). 2 * above (length x.known) p.reported + 1 ≤ turns)
 
