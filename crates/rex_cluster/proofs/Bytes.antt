@@ -1,5 +1,5 @@
 -- The bytes of a delta in its ranges: each number is one, and they are few.
-use Rattle.std.proofs.Common.{◌≡◌, ℕ, zero, suc, ◌+◌, ◌*◌, ◌/◌, ◌^◌, ◌<◌, ◌≤◌, true, List, [], ◌∷◌, ◌++◌, length, get_or, refl, ◌∙◌, sym, subst, arith, ltb-true}
+use Rattle.std.proofs.Common.{◌≡◌, ℕ, zero, suc, ◌+◌, ◌*◌, ◌<◌, ◌≤◌, true, List, [], ◌∷◌, length, get_or, refl, sym, subst, arith, ltb-true, false}
 use Rattle.std.specs.Prelude.{nat_le, Result, Ok, Err}
 use Rattle.std.specs.List.{list_all, flat_map}
 use Rattle.std.specs.Int.{w16, w32, to_be_bytes}
@@ -17,7 +17,7 @@ use Rattle.rex_delta.proofs.Bytes.{AreBytes, more, both, one, each_piece, number
 use Rattle.rex_delta.proofs.KindLaws.{code_between, content_bytes}
 use Rattle.rex_delta.proofs.Versions.{version_between}
 use Rattle.rex_delta.proofs.EventLaws.{event_parts, delta_parts, delta_found}
-use Rattle.rex_delta.specs.Reading.{delta_in}
+use Rattle.rex_delta.specs.Reading.{delta_in, delta_at}
 use Rattle.rex_syntax.specs.declared.service.Declarations.{Declarations}
 use Rattle.rex_cluster.specs.Values.{Value, IsBytes, read_delta, delta_of, is_piece, is_byte, may_be_value, spells}
 
@@ -78,3 +78,8 @@ spelled_delta service v h = go (delta_in v) refl (and_parts (may_be_value v) (is
     go : (r : Result Delta ℕ) → delta_in v ≡ r → is_piece service r ≡ true → HasSpelling (read_delta r)
     go (Ok d) e k = (delta_found v d (spelled_bytes service v h) e).has
     go (Err at) e k = absurd (false≢true k)
+
+-- no bytes spell no delta
+pub nothing_spelled : (service : Declarations) → spells service [] ≡ true → ⊥
+unfolding delta_in delta_at
+nothing_spelled service e = absurd (let no : false ≡ true = e in cc)

@@ -1,4 +1,4 @@
--- Chosen lists: of two the shorter begins the longer, and each front of one fits.
+-- Fronts of lists. Of two chosen lists the shorter begins the longer, and each front of one fits.
 use Rattle.std.proofs.Common.{◌≡◌, ℕ, zero, suc, ◌+◌, ◌<◌, ◌≤◌, true, ◌⊎◌, List, [], ◌∷◌, ◌++◌, length, Some, refl, sym, ◌∙◌, ap, subst, inl, inr, arith, le_refl, length-append}
 use Rattle.std.specs.Prelude.{take}
 use Rattle.std.proofs.lemmas.Bool.{cases_lt}
@@ -13,11 +13,38 @@ use Rattle.rex_cluster.proofs.Agree.{agreement, owned}
 use Rattle.rex_cluster.proofs.Settle.{by_chosen, all_chosen_same}
 
 module _ {V : Type 0} where
+  cons_same : {x y : V} {xs ys : List V} → x ≡ y → xs ≡ ys → x ∷ xs ≡ y ∷ ys
+  cons_same e f = cc
+
   pub begins_cons : {a b : V} (p q : List V) → a ≡ b → Begins p q → Begins (a ∷ p) (b ∷ q)
-  begins_cons {a} {b} p q e h = (h.0, same e h.1)
-    where
-      same : {x y : V} {f g : List V} → x ≡ y → f ≡ g → x ∷ f ≡ y ∷ g
-      same e f = cc
+  begins_cons {a} {b} p q e h = (h.0, cons_same e h.1)
+
+  pub head_of : {x y : V} {xs ys : List V} → x ∷ xs ≡ y ∷ ys → x ≡ y
+  head_of e = cc
+
+  pub tail_of : {x y : V} {xs ys : List V} → x ∷ xs ≡ y ∷ ys → xs ≡ ys
+  tail_of e = cc
+
+  pub nil_not : {x : V} {xs : List V} → x ∷ xs ≡ [] → ⊥
+  nil_not e = cc
+
+  -- of two fronts of a list the one that isn't the longer one is the same as the other, or shorter
+  pub same_fronts : (xs ys zs : List V) → Begins xs zs → Begins ys zs → length xs ≡ length ys → xs ≡ ys
+  same_fronts [] [] zs a b e = refl
+  same_fronts [] (y ∷ ys) zs a b e = absurd (omega (arith, e))
+  same_fronts (x ∷ xs) [] zs a b e = absurd (omega (arith, e))
+  same_fronts (x ∷ xs) (y ∷ ys) [] a b e = absurd (nil_not a.1)
+  same_fronts (x ∷ xs) (y ∷ ys) (z ∷ zs) a b e =
+      cons_same (head_of a.1 ∙ sym (head_of b.1))
+      (same_fronts xs ys zs (a.0, tail_of a.1) (b.0, tail_of b.1) (omega (arith, e)))
+
+  -- a front that isn't shorter is the whole
+  pub whole_front : (xs zs : List V) → Begins xs zs → length zs ≤ length xs → xs ≡ zs
+  whole_front [] [] a l = refl
+  whole_front [] (z ∷ zs) a l = absurd (omega (arith, l))
+  whole_front (x ∷ xs) [] a l = absurd (nil_not a.1)
+  whole_front (x ∷ xs) (z ∷ zs) a l =
+      cons_same (head_of a.1) (whole_front xs zs (a.0, tail_of a.1) (omega (arith, l)))
 
   pub take_all : (vs : List V) (k : ℕ) → length vs ≤ k → take k vs ≡ vs
   take_all [] zero l = refl

@@ -19,6 +19,11 @@ pub mod Sames
 pub mod Queues
 pub mod Clients
 pub mod Working
+pub mod CallLaws
+pub mod Quiet
+pub mod Unseen
+pub mod Learns
+pub mod Handing
 pub mod Acting
 pub mod Faithful
 pub mod Stopping
@@ -27,3 +32,7 @@ pub mod Few
 pub mod Bytes
 pub mod Limits
 pub mod Between
+pub mod Spelled
+pub mod Silent
+pub mod Telling
+pub mod LastReplies

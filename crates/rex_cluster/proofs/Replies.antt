@@ -1,7 +1,7 @@
 -- A reply that a step releases stands in what its node knows, and the node is active.
-use Rattle.std.proofs.Common.{◌≡◌, ℕ, zero, suc, Bool, true, false, ◌⊎◌, List, [], ◌∷◌, ◌++◌, length, Option, Some, None, refl, sym, ◌∙◌, ap, subst, inl, inr, append-nil, append_assoc}
-use Rattle.std.specs.Prelude.{map, slice_get}
-use Rattle.std.proofs.lemmas.Bool.{false≢true}
+use Rattle.std.proofs.Common.{◌≡◌, ℕ, zero, suc, Bool, true, false, ◌⊎◌, List, [], ◌∷◌, ◌++◌, length, Option, Some, None, refl, sym, ◌∙◌, ap, subst, inl, inr, append-nil, append_assoc, take, drop, take-append-drop}
+use Rattle.std.specs.Prelude.{map, slice_get, ℤ, is_some, unwrap_or}
+use Rattle.std.proofs.lemmas.Bool.{false≢true, and_parts}
 use Rattle.rex_syntax.specs.declared.request.Request.{Request}
 use Rattle.rex_syntax.specs.declared.service.Declarations.{Declarations}
 use Rattle.rex_event.specs.declared.event.Event.{Event}
@@ -9,15 +9,12 @@ use Rattle.rex_cut.specs.Greatest.{greatest_cut}
 use Rattle.rex_state.specs.Value.{StateValue}
 use Rattle.rex_record.specs.declared.turns.Turn.{Turn}
 use Rattle.rex_report.specs.declared.effect.Effect.{Effect}
-use Rattle.rex_report.specs.declared.effect.Effect.TheVariants as effect
 use Rattle.rex_cluster.specs.Records.{known}
 use Rattle.rex_cluster.specs.Node.{is_active, role_name}
 use Rattle.rex_cluster.specs.Calls.{say, enough}
-use Rattle.rex_cluster.specs.Values.{Value, service_of}
-use Rattle.rex_cluster.specs.Lanes.{CallHere, active_only, submit_request, effect_of, lane_turn, cut, value_at}
-use Rattle.std.specs.Prelude.{ℤ, is_some, unwrap_or}
+use Rattle.rex_cluster.specs.Values.{Value, service_of, spells, runs, trace_of, events_of, state_after, values_fit, replies_of, release_effect}
+use Rattle.rex_cluster.specs.Lanes.{CallHere, active_only, submit_request, effect_of, lane_turn, cut, value_at, known_state, live_state, turn_effect, turn_in}
 use Rattle.std.specs.List.{All, list_all}
-use Rattle.std.proofs.lemmas.Bool.{and_parts}
 use Rattle.std.proofs.lemmas.List.Elements.{All-head, All-tail}
 use Rattle.std.proofs.lemmas.Option.{same_Some}
 use Rattle.rex_syntax.specs.Service.{IsService}
@@ -27,12 +24,9 @@ use Rattle.rex_state.specs.Machine.{run, run_from, entry_at}
 use Rattle.rex_state.specs.Sound.{IsSound}
 use Rattle.rex_state.proofs.Run.{run-append}
 use Rattle.rex_state.proofs.Sounds.{run_keeps, start_keeps}
-use Rattle.rex_record.specs.declared.turns.Turn.TheVariants as turn
 use Rattle.rex_record.specs.Value.{queued_in, releases}
 use Rattle.rex_schedule.specs.Fits.{RequestFits}
 use Rattle.rex_gate.specs.Answer.{answer_to}
-use Rattle.rex_cluster.specs.Values.{spells, runs, trace_of, events_of, state_after, values_fit, replies_of, release_effect}
-use Rattle.rex_cluster.specs.Lanes.{known_state, live_state, turn_effect, turn_in}
 use Rattle.rex_cluster.specs.Stands.{Stands}
 use Rattle.rex_cluster.specs.Releases.{IsAmong}
 use Rattle.rex_cluster.specs.Invariant.{Begins}
@@ -41,6 +35,8 @@ use Rattle.rex_cluster.proofs.Released.{releases_stand, answer_released, answer_
 use Rattle.rex_cluster.proofs.Told.{AreTold, told_from_start}
 use Rattle.rex_cluster.proofs.Cutting.{cut_keeps}
 use Rattle.rex_cluster.proofs.Saying.{Quiet, Other, Says, quiet_push, quiet_says, say_says, cut_says, among_either}
+use Rattle.rex_report.specs.declared.effect.Effect.TheVariants as effect
+use Rattle.rex_record.specs.declared.turns.Turn.TheVariants as turn
 
 -- ---- traces of values
 
@@ -165,3 +161,11 @@ module _ (service : Declarations) (good : IsService service) (checked : IsChecke
     where
       tells : (e : Effect) → Other e → SaysHere (say e d)
       tells e o = say_says n (service_of service seed) me (StandsIn service good checked) (replies_stand service good checked) e d q o
+
+-- the first values run
+pub front_runs : (service : Declarations) (n : ℕ) (vs : List Value) → values_fit service vs ≡ true → (s : StateValue) × (run service (start_of service) (trace_of (take n vs)) ≡ Some s)
+front_runs service n vs h =
+    let r = fits_run service vs h in
+    let parts : trace_of vs ≡ trace_of (take n vs) ++ trace_of (drop n vs) = ap trace_of (sym (take-append-drop n vs)) ∙ trace_both _ _ in
+    let q = run_split service (start_of service) r.0 (trace_of (take n vs)) (trace_of (drop n vs)) (ap (run service (start_of service)) (sym parts) ∙ r.1) in
+    (q.0, q.1)

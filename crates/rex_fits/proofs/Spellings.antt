@@ -16,7 +16,7 @@ use Rattle.rex_state.specs.Value.{StateValue}
 use Rattle.rex_state.specs.Machine.{run}
 use Rattle.rex_cluster.specs.Values.{Value, events_of, is_piece, may_be_value, read_delta, spells}
 use Rattle.rex_cluster.proofs.Bytes.{delta_bytes_are}
-use Rattle.rex_node.proofs.Spelled.{spelled_counted}
+use Rattle.rex_cluster.proofs.Spelled.{spelled_counted}
 use Rattle.rex_fits.specs.Applied.{AppliedValue, HasTaken, greatest_clock, spelled_events}
 
 -- ---- its events

@@ -3,3 +3,7 @@ pub mod Pasts
 pub mod Accepting
 pub mod Saying
 pub mod Found
+pub mod OldBase
+pub mod Proposers
+pub mod Beside
+pub mod Ranges

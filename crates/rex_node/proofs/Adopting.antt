@@ -10,12 +10,13 @@ use Rattle.rex_cluster.proofs.Lists.{BestOk, best_ok}
 use Rattle.rex_cluster.proofs.Stopping as stopping
 use Rattle.rex_node.specs.Leading.{IsLonger}
 use Rattle.rex_node.proofs.Appended.{beside_of, fits_instance}
-use Rattle.rex_node.proofs.Bridges as bridges
-use Rattle.rex_node.proofs.Grows.{fits_before, rest_runs, settle_learns}
+use Rattle.rex_log.proofs.Proposers as bridges
+use Rattle.rex_node.proofs.Grows.{rest_runs}
 use Rattle.rex_node.proofs.GoingLemmas.{leads_same, leads_then, leads_fell}
 use Rattle.rex_node.proofs.Opening.{lead_opened, opened_by, opened_is}
 use Rattle.rex_node.proofs.Stuck.{breaks_after, breaks_as, settle_loses}
 use Rattle.rex_node.proofs.Reaching.{bare_reached}
+use Rattle.rex_cluster.proofs.Learns.{fits_before, settle_learns}
 
 -- ---- the model's turn
 

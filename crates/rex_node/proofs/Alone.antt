@@ -4,7 +4,7 @@ use Rattle.rex_state.specs.Counts.{AreCounted}
 use Rattle.rex_wire.proofs.Fields.{IsBytes}
 use Rattle.rex_delta.specs.Alone.{events_of as its_events}
 use Rattle.rex_delta.proofs.EventLaws.{delta_found}
-use Rattle.rex_node.proofs.Spelled.{spelled_counted}
+use Rattle.rex_cluster.proofs.Spelled.{spelled_counted}
 
 pub read_events : (r : Result Delta ℕ) {es : List Event} → its_events r ≡ Ok es → es ≡ (read_delta r).events
 read_events (Ok d) e = cc

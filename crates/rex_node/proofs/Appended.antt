@@ -7,8 +7,7 @@ use Rattle.rex_report.specs.declared.effect.Effect.TheVariants as effect
 use Rattle.rex_cluster.specs.Ranges.{IsBallot, IsInstance, LogFits}
 use Rattle.rex_cluster.proofs.Ranged.{log_promised, log_accepted, log_known}
 use Rattle.rex_node.proofs.GoingLemmas.{leads_append, fell_append}
-use Rattle.rex_log.proofs.Accepting.{placed_kept}
-use Rattle.rex_node.proofs.Instances.{rising_zero, placed_from}
+use Rattle.rex_log.proofs.Accepting.{placed_kept, placed_from, rising_zero}
 
 -- the ranges of a node's numbers are the model's
 pub ballot_fits : {b : ℕ} → ballots.IsBallot b → IsBallot b

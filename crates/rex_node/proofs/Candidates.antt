@@ -11,18 +11,19 @@ use Rattle.rex_cluster.proofs.Lists.{in_from_on}
 use Rattle.rex_cluster.proofs.Ranged.{accepted_fit}
 use Rattle.rex_node.specs.Electing.{candidate_of, standing}
 use Rattle.rex_node.proofs.Appended.{Beside, IsLogged, appended_here, appended_leads, appended_log, ballot_fits, beside_of, call_at, logged_of, logged_promised, up_of}
-use Rattle.rex_node.proofs.Bridges.{left_is}
+use Rattle.rex_log.proofs.Proposers.{left_is}
 use Rattle.rex_node.proofs.Continuing.{ends_if}
 use Rattle.rex_node.proofs.Stuck.{breaks_after, settle_loses}
 use Rattle.rex_node.proofs.Ending.{HasCome}
 use Rattle.rex_node.proofs.Following.{far, follower_here}
 use Rattle.rex_node.proofs.GoingLemmas.{leads_same, leads_then}
 use Rattle.rex_node.proofs.Grows.{rest_runs}
-use Rattle.rex_node.proofs.Instances.{from_kept}
+use Rattle.rex_log.proofs.Accepting.{from_kept}
 use Rattle.rex_node.proofs.Leaving.{replayed_from, replayed_to, state_left}
 use Rattle.rex_node.proofs.Opening.{logged_as}
-use Rattle.rex_node.proofs.Quiet.{IsQuiet, elect_well, replies_quiet}
 use Rattle.rex_node.proofs.Recorded.{recorded_down, recorded_stuck}
+use Rattle.rex_cluster.proofs.CallLaws.{IsQuiet, replies_quiet}
+use Rattle.rex_cluster.proofs.Quiet.{elect_well}
 
 -- no more proposals are past an instance than there are
 pub above_most : (k : ℕ) (ps : List Kept) → above k ps ≤ length ps

@@ -17,7 +17,7 @@ use Rattle.rex_cluster.specs.Calls.{hear}
 use Rattle.rex_cluster.proofs.Lists.{in_cases}
 use Rattle.rex_node.specs.Electing.{counting, uncounting, vote_on}
 use Rattle.rex_node.proofs.Appended.{Beside, ballot_fits, beside_of, instance_fits, logged_of, up_of}
-use Rattle.rex_node.proofs.Bridges.{in_counted, majority_is}
+use Rattle.rex_log.proofs.Proposers.{in_counted, majority_is}
 use Rattle.rex_node.proofs.Candidates.{above_most}
 use Rattle.rex_node.proofs.Continuing.{ends_then}
 use Rattle.rex_node.proofs.Following.{EndsWell, ends_same, far}

@@ -8,7 +8,7 @@ use Rattle.rex_log.specs.Log.{first as front_of}
 use Rattle.rex_node.specs.Calls.{IsGivenUp, Leaves}
 use Rattle.rex_node.proofs.Appended.{IsLogged, call_at, Beside, logged_of, beside_of, up_of}
 use Rattle.rex_node.proofs.Grows.{later_none}
-use Rattle.rex_node.proofs.Quiet.{IsQuiet}
+use Rattle.rex_cluster.proofs.CallLaws.{IsQuiet}
 
 -- ---- lists
 

@@ -1,12 +1,9 @@
 pub mod Common
 pub mod Blocks
 pub mod Adopting
-pub mod Bridges
 pub mod Following
-pub mod Fronts
 pub mod GoingLemmas
 pub mod Grows
-pub mod Instances
 pub mod Appended
 pub mod Candidates
 pub mod Continuing
@@ -18,12 +15,10 @@ pub mod Knowing
 pub mod Knows
 pub mod Leaving
 pub mod Reaching
-pub mod Limited
 pub mod Majorities
 pub mod Moving
 pub mod Opening
 pub mod Proposed
-pub mod Quiet
 pub mod Recorded
 pub mod Promises
 pub mod Choices
@@ -40,10 +35,8 @@ pub mod OwnPieces
 pub mod Recalling
 pub mod Restarts
 pub mod Rounds
-mod Silent
 pub mod Stamping
 pub mod Admitted
-pub mod Spelled
 pub mod Stuck
 pub mod Told
 pub mod Turns
@@ -52,7 +45,6 @@ pub mod Written
 pub mod Reading
 pub mod Held
 pub mod Saved
-pub mod OldBase
 pub mod SavedAgain
 pub mod Alone
 pub mod AsTold

@@ -11,7 +11,8 @@ use Rattle.rex_node.proofs.Adopting.{decide_led}
 use Rattle.rex_node.proofs.Appended.{beside_of, fits_instance}
 use Rattle.rex_node.proofs.Candidates.{above_most}
 use Rattle.rex_node.proofs.GoingLemmas.{leads_same, leads_then, leads_fell}
-use Rattle.rex_node.proofs.Grows.{fits_before, rest_runs, settle_learns}
+use Rattle.rex_node.proofs.Grows.{rest_runs}
+use Rattle.rex_cluster.proofs.Learns.{fits_before, settle_learns}
 use Rattle.rex_node.proofs.Stuck.{breaks_after, breaks_later, settle_loses}
 use Rattle.rex_node.proofs.Turns.{ends_then, settles_as}
 use Rattle.rex_node.proofs.Votes.{found_all, found_instance, is_quorum, majority_more, one, one_more, opens, outcome, parts, whole_is}

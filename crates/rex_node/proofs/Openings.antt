@@ -4,7 +4,7 @@ use Rattle.rex_ballot.specs.Ballot.{node_of}
 use Rattle.rex_ballot.proofs.Lists.{proposal_for-with}
 use Rattle.rex_paxos.specs.Counting as counting
 use Rattle.rex_cluster.specs.Node.Role.{Leads}
-use Rattle.rex_node.proofs.Bridges.{majority_is}
+use Rattle.rex_log.proofs.Proposers.{majority_is}
 
 -- ---- what a node leads with
 

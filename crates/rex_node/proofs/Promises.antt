@@ -9,7 +9,7 @@ use Rattle.rex_report.specs.declared.effect.Effect.TheVariants as effect
 use Rattle.rex_cluster.specs.Calls.{promised}
 use Rattle.rex_node.proofs.Appended.{ballot_fits, instance_fits, logged_of, logged_promised, logged_accepted, IsLogged}
 use Rattle.rex_node.proofs.Bases.{tells_base}
-use Rattle.rex_node.proofs.Instances.{from_kept, last_kept, rising_zero}
+use Rattle.rex_log.proofs.Accepting.{from_kept, last_kept, rising_zero}
 use Rattle.rex_node.proofs.Following.{EndsWell, ends_same}
 use Rattle.rex_node.proofs.Recorded.{sends_to, recorded_stuck, recorded_down, recorded_on, follows_node, follows_up, follows_keeper, follows_to}
 

@@ -4,7 +4,7 @@ use Rattle.rex_durable.specs.Laws.{HasSnapshot, MayBeAccepted}
 use Rattle.rex_cluster.specs.Agreed.{base_state}
 use Rattle.rex_node.specs.Parts.{IsNode, DecodedValue}
 use Rattle.rex_node.specs.Restarting.{CameUp, HasForgotten, HasRightBase, IsAsRecovered, risen}
-use Rattle.rex_node.proofs.Fronts.{front_runs}
+use Rattle.rex_cluster.proofs.Replies.{front_runs}
 use Rattle.rex_node.proofs.Recalling.{old_base_is, recovered_says}
 use Rattle.rex_node.proofs.Reaching.{again_reached}
 

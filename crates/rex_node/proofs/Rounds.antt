@@ -8,7 +8,7 @@ use Rattle.rex_cluster.specs.Calls.{activate}
 use Rattle.rex_node.specs.Leading.{IsActive, activated, fresh}
 use Rattle.rex_node.proofs.Appended.{beside_of, logged_of, up_of}
 use Rattle.rex_node.proofs.Adopting.{goes_parts, turn_chooses}
-use Rattle.rex_node.proofs.Bridges as bridges
+use Rattle.rex_log.proofs.Proposers as bridges
 use Rattle.rex_node.proofs.GoingLemmas.{leads_same}
 use Rattle.rex_node.proofs.Opening.{logged_as}
 use Rattle.rex_node.proofs.Stamping.{stamped_in}

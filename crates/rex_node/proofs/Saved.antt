@@ -12,7 +12,7 @@ use Rattle.rex_node.specs.Checkpointing.{FallsSaving, Saves, fallen_with, rebase
 use Rattle.rex_node.proofs.Appended.{IsLogged, beside_of, call_at, logged_of, up_of}
 use Rattle.rex_node.proofs.GoingLemmas.{stated_one, fell_append}
 use Rattle.rex_node.proofs.Executing.{executes}
-use Rattle.rex_node.proofs.Fronts.{front_runs}
+use Rattle.rex_cluster.proofs.Replies.{front_runs}
 
 -- ---- the state that was replayed
 

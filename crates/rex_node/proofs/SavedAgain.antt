@@ -6,7 +6,7 @@ use Rattle.rex_node.specs.declared.refusal.Refusal.TheVariants as why
 use Rattle.rex_node.specs.Checkpointing.{Migrates}
 use Rattle.rex_node.proofs.Appended.{IsLogged, beside_of, call_at, logged_of, up_of}
 use Rattle.rex_node.proofs.GoingLemmas.{stated_one, fell_append}
-use Rattle.rex_node.proofs.OldBase.{old_based}
+use Rattle.rex_log.proofs.OldBase.{old_based}
 use Rattle.rex_node.proofs.Saved.{front_limited, refused_none}
 
 -- ---- refusals

@@ -1,50 +1,12 @@
 -- What is known of an active node's clients numbers their replies as the values do.
-use Rattle.rex_node.proofs.Common.{◌≡◌, ℕ, zero, suc, ◌+◌, ◌<◌, ◌≤◌, Bool, true, false, cond, List, [], ◌∷◌, ◌++◌, length, take, drop, Option, Some, None, refl, sym, ap, subst, ◌∙◌, arith, ℤ, slice_index_or, unwrap_or, lt-ltb, length-take-le, entry_at, replies_to, AnswersValue, answers_at, noting, Value, events_of, last_reply, length_push, NumbersReplies, last_held}
+use Rattle.rex_node.proofs.Common.{◌≡◌, ℕ, suc, ◌+◌, ◌<◌, ◌≤◌, Bool, true, false, cond, List, [], ◌∷◌, ◌++◌, length, take, drop, Option, Some, None, refl, sym, ap, subst, ◌∙◌, arith, ℤ, slice_index_or, unwrap_or, lt-ltb, length-take-le, entry_at, replies_to, AnswersValue, answers_at, noting, Value, events_of, last_reply, length_push, NumbersReplies, last_held}
 use Rattle.std.proofs.Common.{max}
 use Rattle.std.proofs.lemmas.List.{take-append-drop}
 use Rattle.rex_state.specs.declared.lane.Entry.{Entry}
 use Rattle.rex_gate.specs.Numbers.{next_number, stamp_of_state}
 use Rattle.rex_gate.specs.Noted.{stamp_of}
 use Rattle.rex_gate.proofs.Stamps.{noted_number, numbered_long, state_long, state_stamp}
-
--- ---- the last reply among values
-
--- it is none past the last value
-last_most : (client n : ℕ) (vs : List Value) → last_reply client (suc n) vs ≤ n + length vs
-last_most client n [] = omega arith
-last_most client n (v ∷ vs) = one (replies_to client (events_of v)) (last_reply client (suc (suc n)) vs) (last_most client (suc n) vs)
-  where
-    one : (t : Bool) (rest : ℕ) → rest ≤ suc n + length vs → max (cond t (suc n) 0) rest ≤ n + suc (length vs)
-    one true rest h = omega (arith, h)
-    one false rest h = omega (arith, h)
-
-last_push : (client n : ℕ) (vs : List Value) (v : Value) → last_reply client n (vs ++ v ∷ []) ≡ max (last_reply client n vs) (cond (replies_to client (events_of v)) (n + length vs) 0)
-last_push client n [] v = one (replies_to client (events_of v))
-  where
-    one : (t : Bool) → max (cond t n 0) 0 ≡ max 0 (cond t (n + 0) 0)
-    one true = omega arith
-    one false = omega arith
-last_push client n (u ∷ us) v =
-    ap (max (cond (replies_to client (events_of u)) n 0)) (last_push client (suc n) us v)
-    ∙ one (cond (replies_to client (events_of u)) n 0) (last_reply client (suc n) us) (replies_to client (events_of v))
-  where
-    one : (a b : ℕ) (t : Bool) → max a (max b (cond t (suc n + length us) 0)) ≡ max (max a b) (cond t (n + suc (length us)) 0)
-    one a b true = omega arith
-    one a b false = omega arith
-
--- it is the last one of the later values, or else that of the earlier ones
-last_append : (client n : ℕ) (us vs : List Value) → last_reply client n (us ++ vs) ≡ max (last_reply client n us) (last_reply client (n + length us) vs)
-last_append client n [] vs =
-    let from : last_reply client n vs ≡ last_reply client (n + 0) vs = ap (λ k. last_reply client k vs) (let m : n ≡ n + 0 = omega arith in m) in
-    let alone : last_reply client (n + 0) vs ≡ max 0 (last_reply client (n + 0) vs) = omega arith in
-    from ∙ alone
-last_append client n (u ∷ us) vs =
-    ap (max (cond (replies_to client (events_of u)) n 0)) (last_append client (suc n) us vs)
-    ∙ one (cond (replies_to client (events_of u)) n 0) (last_reply client (suc n) us) (last_reply client (suc n + length us) vs)
-    ∙ ap (λ k. max (last_reply client n (u ∷ us)) (last_reply client k vs)) (let m : suc n + length us ≡ n + suc (length us) = omega arith in m)
-  where
-    one : (a b c : ℕ) → max a (max b c) ≡ max (max a b) c
-    one a b c = omega arith
+use Rattle.rex_cluster.proofs.LastReplies.{last_most, last_push, last_append, first_or_rest}
 
 -- ---- one value more
 
@@ -105,13 +67,6 @@ held_last {offset} values client low =
     omega (arith, long, most, parts)
 
 -- ---- values looked at from the last one back
-
--- among these the first replies to the client, or the last reply is that of the others
-first_or_rest : (client number : ℕ) (values : List Value) (i : ℕ) (d : Value) → i < length values
-    → last_reply client number (drop i values) ≡ max (cond (replies_to client (events_of (slice_index_or values i d))) number 0) (last_reply client (suc number) (drop (suc i) values))
-first_or_rest client number [] i d l = absurd (omega (arith, l))
-first_or_rest client number (v ∷ vs) zero d l = refl
-first_or_rest client number (v ∷ vs) (suc i) d l = first_or_rest client number vs i d (omega (arith, l))
 
 -- from the value after so many on none replies to the client
 abbrev pub IsSilent : ℕ → ℕ → List Value → ℕ → Type 0

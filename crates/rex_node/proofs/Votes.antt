@@ -14,7 +14,7 @@ use Rattle.rex_node.proofs.Appended.{beside_of, logged_of, up_of}
 use Rattle.rex_node.proofs.GoingLemmas.{leads_same}
 use Rattle.rex_node.proofs.Opening.{logged_as}
 use Rattle.rex_node.proofs.Written.{call_is}
-use Rattle.rex_node.proofs.Bridges as bridges
+use Rattle.rex_log.proofs.Proposers as bridges
 
 -- ---- what is made of an acceptance
 

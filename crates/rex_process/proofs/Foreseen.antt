@@ -21,7 +21,7 @@ use Rattle.rex_cluster.specs.Lanes.{CallHere}
 use Rattle.rex_log.specs.Log.{proposal_in}
 use Rattle.rex_node.specs.Electing.{acceptance_vote_on}
 use Rattle.rex_node.specs.Parts.{IsProposer, Proposes, lead_of, open_of, open_value, proposed_value, role_of}
-use Rattle.rex_node.proofs.Bridges as bridges
+use Rattle.rex_log.proofs.Proposers as bridges
 use Rattle.rex_node.proofs.Votes.{majority_more, open_at}
 use Rattle.rex_processes.specs.Early.{is_chosen_with, replies_to, replies_with}
 use Rattle.rex_process.specs.Foretelling.{active_value, is_quorum}

@@ -17,7 +17,7 @@ use Rattle.rex_cluster.specs.Values.{Value, trace_of}
 use Rattle.rex_cluster.specs.Lanes.{Here}
 use Rattle.rex_node.specs.Checkpointing.{replayed_state, replayed_with}
 use Rattle.rex_node.specs.Parts.{ActingValue, IsActing, IsNode, IsUp, NodeValue, here_of, role_of, state_of, work_of}
-use Rattle.rex_node.proofs.Bridges.{majority_is}
+use Rattle.rex_log.proofs.Proposers.{majority_is}
 use Rattle.rex_processes.specs.Plain.{IsPlain}
 use Rattle.rex_processes.proofs.Calling.{plain_offset}
 use Rattle.rex_process.specs.Process.{is_behind}

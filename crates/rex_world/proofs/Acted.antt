@@ -2,7 +2,7 @@
 use Rattle.rex_world.proofs.Common.{◌≡◌, ℕ, Bool, true, false, List, [], map, Option, inl, inr, refl, sym, ap, subst, ◌∙◌, le_refl, append-nil, Declarations, IsDown, Failure, begin, say, Begins, Value, Here, CallHere, Step, message_in, StaysNode, Does, EndsDown, Serves, Member, IsKeeping, IsMember, StaysMember, faults_of, here_at, records_of, HasCome, served}
 use Rattle.rex_steps.specs.Serving.{ServesIf}
 use Rattle.rex_world.proofs.Failing.{follows, is_done, stays_broken, stays_grown, stays_keeping, stays_within}
-use Rattle.rex_world.proofs.Unseen.{Goes}
+use Rattle.rex_cluster.proofs.Unseen.{Goes}
 
 pub none_grown : {records : List (List ℕ)} → Begins records records
 none_grown {records} = ([], append-nil records)

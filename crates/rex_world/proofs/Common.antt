@@ -15,16 +15,15 @@ pub use Rattle.std.specs.Vec.{with_item}
 pub use Rattle.std.specs.Vec.Iter.{into_iter_items}
 pub use Rattle.rex_ballot.specs.Limits.{most_nodes}
 pub use Rattle.rex_cluster.specs.Agreed.{agreed, longer_of, longest}
-pub use Rattle.rex_cluster.specs.Calls.{append, ask, begin, checkpoint, elect, migrate, receive, replay, say, start, stop}
+pub use Rattle.rex_cluster.specs.Calls.{ask, begin, checkpoint, elect, migrate, receive, replay, say, start, stop}
 pub use Rattle.rex_cluster.specs.Invariant.{Begins, IsIn}
 pub use Rattle.rex_cluster.specs.Lanes.{CallHere, Here, active_only, cut, live_state, submit_request}
 pub use Rattle.rex_cluster.specs.Node.{Content, Failure, Lead, Message, Role, Service, is_active, kind_of, role_name}
-pub use Rattle.rex_cluster.specs.Node.Content.{Accept, Ask, Promise}
 pub use Rattle.rex_cluster.specs.Node.Failure.{After}
 pub use Rattle.rex_cluster.specs.Node.Role.{Follower, Leads}
 pub use Rattle.rex_cluster.specs.Ranges.{MessageFits}
 pub use Rattle.rex_cluster.specs.Reading.{seen_by_release, seen_by_releases, stamp_at}
-pub use Rattle.rex_cluster.specs.Records.{Proposal, Rec, base, known, offset, promise}
+pub use Rattle.rex_cluster.specs.Records.{Rec, known, offset, promise}
 pub use Rattle.rex_cluster.specs.Releases.{IsAmong}
 pub use Rattle.rex_cluster.specs.Takes.{BeginsInRange, take_event}
 pub use Rattle.rex_cluster.specs.Values.{Value, runs, service_of, spells, state_after, trace_of, values_fit}

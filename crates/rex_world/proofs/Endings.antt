@@ -1,8 +1,9 @@
 -- The end lines of nodes.
-use Rattle.rex_world.proofs.Common.{◌≡◌, ℕ, suc, ◌+◌, ◌-◌, ◌<◌, ◌≤◌, true, List, [], ◌∷◌, ◌++◌, length, take, Option, Some, None, is_some, refl, sym, ◌∙◌, ap, subst, arith, append_assoc, add-zero, add-one, slice_index_or, unwrap_or, if◌then◌else◌, on_ok_weaker, take-suc, Declarations, StateValue, start_of, run, Event, Up, promise, known, role_name, is_active, Value, trace_of, state_after, Here, KeeperValue, log_of, NodeValue, ActingValue, IsActing, here_of, role_of, work_of, Member, AreMembers, IsMember, here_at, heres, records_of, ends_text}
+use Rattle.rex_world.proofs.Common.{◌≡◌, ℕ, suc, ◌+◌, ◌-◌, ◌<◌, ◌≤◌, true, List, [], ◌∷◌, ◌++◌, length, take, Option, Some, None, is_some, refl, sym, ◌∙◌, ap, subst, arith, append_assoc, add-zero, add-one, slice_index_or, if◌then◌else◌, on_ok_weaker, take-suc, Declarations, StateValue, start_of, run, Up, promise, known, role_name, is_active, Value, trace_of, state_after, Here, KeeperValue, log_of, NodeValue, ActingValue, IsActing, here_of, role_of, work_of, Member, AreMembers, IsMember, here_at, heres, records_of, ends_text}
 use Rattle.std.proofs.Common.{length-take}
 use Rattle.std.specs.Prelude.{ℤ, Result, OnOk}
 use Rattle.rex_state.proofs.Run.{run-then}
+use Rattle.rex_cluster.proofs.Replies.{state_is}
 use Rattle.rex_report.specs.declared.ends.End.{End}
 use Rattle.rex_report.specs.declared.ends.End.TheVariants.{Down}
 use Rattle.rex_report.specs.declared.ends.UpEnd.{UpEnd}
@@ -13,10 +14,6 @@ use Rattle.rex_world.proofs.Knowing.{count_known}
 use Rattle.rex_world.proofs.Placed.{many_here, member_is}
 use Rattle.std.proofs.lemmas.List.{append-nil}
 use Rattle.rex_world.specs.Report.{count_of, end_of, node_text, shown_state, up_end_of}
-
--- the state that events run to
-run_to : (service : Declarations) (es : List Event) {s : StateValue} → run service (start_of service) es ≡ Some s → state_after service es ≡ s
-run_to service es h = ap (λ o. unwrap_or o (start_of service)) h
 
 -- an end line that was told, in other terms
 pub told_as : {E : Type 0} {end other : End} {service declared : Declarations} {values shown : List ℤ} {counts others : List ℕ} (r : Result (Unit {0}) E) (before after : List ℕ) → other ≡ end → declared ≡ service → shown ≡ values → others ≡ counts
@@ -34,11 +31,11 @@ told_as {E} {end} {other} {service} {declared} {values} {shown} {counts} {others
 shown_at : (service : Declarations) (values : List Value) (replayed : ℕ) (a : _) (proposer : Option _) (acting : Option ActingValue) {s : StateValue}
     → (acting ≡ None → run service (start_of service) (trace_of (take replayed values)) ≡ Some s) → IsActing service values a proposer acting
     → (if is_active (role_of a proposer (is_some acting)) then state_after service (trace_of values ++ (work_of acting).live) else state_after service (trace_of (take replayed values))) ≡ shown_with acting s
-shown_at service values replayed a None None {s} ahead acts = run_to service _ (ahead refl)
-shown_at service values replayed a (Some p) None {s} ahead acts = run_to service _ (ahead refl)
+shown_at service values replayed a None None {s} ahead acts = state_is service _ _ (ahead refl)
+shown_at service values replayed a (Some p) None {s} ahead acts = state_is service _ _ (ahead refl)
 shown_at service values replayed a None (Some e) ahead acts = absurd acts
 shown_at service values replayed a (Some p) (Some e) ahead acts =
-    run_to service _ (run-then service (start_of service) _ (trace_of values) _ acts.executes.known ∙ acts.executes.recorder.runs)
+    state_is service _ _ (run-then service (start_of service) _ (trace_of values) _ acts.executes.known ∙ acts.executes.recorder.runs)
 
 few_live : (service : Declarations) (values : List Value) (a : _) (proposer : Option _) (acting : Option ActingValue) → IsActing service values a proposer acting → length (work_of acting).live ≤ 4096
 few_live service values a p None acts = omega arith

@@ -11,7 +11,8 @@ use Rattle.rex_node.specs.Parts.{failed_records}
 use Rattle.rex_node.specs.Stated.{AreStated, is_stated}
 use Rattle.rex_node.specs.Calls.{FailsAfter, GoesWell, call_of, failed_many}
 use Rattle.rex_world.specs.Members.{failing}
-use Rattle.rex_world.proofs.Unseen.{Goes, armed_as, unseen}
+use Rattle.rex_cluster.proofs.CallLaws.{armed_as}
+use Rattle.rex_cluster.proofs.Unseen.{Goes, unseen}
 
 abbrev pub follows : KeeperValue → List ℕ → Answer → KeeperValue → Type 0
 follows old bytes result new = ObeysArming old new bytes result

@@ -10,7 +10,9 @@ use Rattle.rex_safety.proofs.Held.{transfers_right}
 use Rattle.rex_log.specs.Log.{rec_of, standing_in}
 use Rattle.rex_node.specs.Parts.{IsUp, whole}
 use Rattle.rex_world.proofs.Agreeing.{holds_of_longest}
-use Rattle.rex_world.proofs.Beside.{TakesFronts, begins_on, first_grown, log_grown, messages_grown, past_has, same_fronts, whole_front}
+use Rattle.rex_cluster.proofs.Fronts.{same_fronts, whole_front}
+use Rattle.rex_log.proofs.Beside.{TakesFronts, first_grown, log_grown, past_has}
+use Rattle.rex_world.proofs.Beside.{begins_on, messages_grown}
 use Rattle.rex_world.proofs.Learning.{known_due, learned_as, learned_of}
 use Rattle.rex_world.proofs.Placed.{later_at, log_is, many_here, read_is}
 use Rattle.rex_world.proofs.Coming.{IsUnsettled, same_world}

@@ -1,5 +1,5 @@
 -- What holds of every run of a scenario.
-use Rattle.rex_world.proofs.Common.{◌≡◌, inl, inr, ℕ, zero, suc, ◌≤◌, true, List, [], ◌∷◌, ◌++◌, Option, Some, None, is_some, length, ◌^◌, refl, sym, ap, subst, arith, length-append, All, list_all, and_parts, All-nil, All-cons, All-head, All-tail, most_nodes, Request, Declarations, IsService, IsChecked, StateValue, start_of, run, ScheduleLine, RequestFits, LineFits, Value, spells, runs, trace_of, values_fit, agreed, IsIn}
+use Rattle.rex_world.proofs.Common.{◌≡◌, inl, inr, ℕ, zero, suc, ◌≤◌, List, [], ◌∷◌, ◌++◌, length, ◌^◌, refl, sym, ap, subst, arith, length-append, All, All-nil, All-cons, All-head, All-tail, most_nodes, Request, Declarations, IsService, IsChecked, start_of, ScheduleLine, RequestFits, LineFits, Value, runs, trace_of, agreed, IsIn}
 use Rattle.std.specs.Prelude.{take, map}
 use Rattle.rex_syntax.specs.Typed.{ServiceIsTyped, RequestIsTyped}
 use Rattle.rex_cluster.specs.Agreed.{world_after}
@@ -22,16 +22,8 @@ use Rattle.rex_order.specs.Edges.{joined, HasEdge, AllRight}
 use Rattle.rex_order.specs.Laws.{AllowExtensions}
 use Rattle.rex_order.proofs.Extensions.{cuts_run_alike}
 use Rattle.rex_order.proofs.Edges.{deltas_allow_extensions}
+use Rattle.rex_cluster.proofs.Replies.{fits_run}
 use Rattle.rex_world.specs.Laws.{Headline, StaysFaithful}
-
--- what is there is some value
-there : {A : Type 0} (o : Option A) → is_some o ≡ true → (x : A) × (o ≡ Some x)
-there None h = absurd (cc)
-there (Some x) h = (x, refl)
-
--- values that fit run from the start
-pub fit_run : (service : Declarations) (values : List Value) → values_fit service values ≡ true → (s : StateValue) × (run service (start_of service) (trace_of values) ≡ Some s)
-fit_run service values h = there _ (and_parts (list_all (spells service) values) (runs service (trace_of values)) h).1
 
 joined_trace : (values : List Value) → joined (map delta_of values) ≡ trace_of values
 joined_trace [] = refl
@@ -52,15 +44,15 @@ pub headline : {service : Declarations} {requests : List Request} {seed n : ℕ}
     → All (RequestFits service) requests → Headline service requests seed n lines
 headline {service} {requests} {seed} {n} {lines} few good checked fit = record {
   prefix = λ earlier later rest is a b la lb. is_one_list service requests seed n earlier later few a b la lb;
-  runs = λ front rest is k. fit_run service _
+  runs = λ front rest is k. fits_run service _
       (agreed_fits n _ _ (reached_ok service requests seed n few front) refl k);
   cuts = λ front rest is k cut c. agreed_cuts service requests seed n front few good checked k cut c;
   orders = λ front rest is k cut c.
-      let r = fit_run service _ (agreed_fits n _ _ (reached_ok service requests seed n few front) refl k) in
+      let r = fits_run service _ (agreed_fits n _ _ (reached_ok service requests seed n few front) refl k) in
       cuts_run_alike service _ r.0 _ cut good (start_keeps service good checked) r.1 c;
   edges = λ front rest is k cut c.
       let vs = take k (agreed (world_after service requests seed n front)) in
-      let r = fit_run service vs (agreed_fits n _ _ (reached_ok service requests seed n few front) refl k) in
+      let r = fits_run service vs (agreed_fits n _ _ (reached_ok service requests seed n few front) refl k) in
       let counts = (runs_count_on service _ r.0 _ r.1).numbered in
       let right = all_right vs (λ v i. (agreed_least service requests seed n front few good checked v (in_take k _ v i)).right) in
       subst (λ es. AllowExtensions (HasEdge (map delta_of vs)) es cut) (joined_trace vs)

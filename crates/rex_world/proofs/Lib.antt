@@ -21,7 +21,6 @@ pub mod Summing
 pub mod Placed
 pub mod Sending
 pub mod Failing
-pub mod Unseen
 pub mod Written
 pub mod Endings
 pub mod Beginning

@@ -1,8 +1,9 @@
 -- Messages that are sent one after the other.
-use Rattle.rex_world.proofs.Common.{◌≡◌, ℕ, suc, refl, ◌+◌, ◌<◌, Bool, false, List, [], ◌∷◌, ◌++◌, length, map, take, sym, ◌∙◌, ap, subst, arith, append_assoc, length-append, add-zero, add-one, replicate, slice_index_or, take-suc, map-append, length-map, All-append, Effect, Said, HasSpelling, spelling_of, Message, kind_of, Value, sent_from, Says, content_in, message_in, Sends}
+use Rattle.rex_world.proofs.Common.{◌≡◌, ℕ, suc, refl, ◌+◌, ◌<◌, Bool, false, List, [], ◌∷◌, ◌++◌, length, map, take, sym, ◌∙◌, ap, subst, arith, append_assoc, length-append, add-one, replicate, slice_index_or, take-suc, map-append, length-map, All-append, Effect, Said, HasSpelling, spelling_of, kind_of, Value, sent_from, Says, content_in, message_in, Sends}
 use Rattle.std.proofs.lemmas.List.{replicate-append-replicate}
 use Rattle.rex_report.specs.declared.effect.Effect.TheVariants.{Sent}
 use Rattle.rex_msg.specs.declared.message.Content.TheVariants as says
+use Rattle.rex_cluster.proofs.Handing.{sent_both}
 
 -- what is told of messages is the same beside every past
 same_kind : (past : List Value) (c : Says) → kind_of (content_in past c) ≡ kind_of (content_in [] c)
@@ -23,13 +24,6 @@ sent_alike past number (m ∷ ms) =
 
 pub kind_alike : (past : List Value) (c : Says) → kind_of (content_in [] c) ≡ kind_of (content_in past c)
 kind_alike past c = sym (same_kind past c)
-
--- what was sent after other messages is told under the numbers after theirs
-pub sent_both : (number : ℕ) (xs ys : List (Message Value)) → sent_from number (xs ++ ys) ≡ sent_from number xs ++ sent_from (number + length xs) ys
-sent_both number [] ys = ap (λ k. sent_from k ys) (sym (add-zero number))
-sent_both number (x ∷ xs) ys =
-    let e : suc number + length xs ≡ number + suc (length xs) = omega arith in
-    ap (λ es. Sent number (kind_of x.content) x.from x.to ∷ es) (sent_both _ xs ys ∙ ap (λ k. sent_from (suc number) xs ++ sent_from k ys) e)
 
 pub sends_more : {xs ys : List Said} {net net1 net2 : List (List ℕ)} {handed handed1 handed2 : List Bool} {sent sent1 sent2 : List Effect}
     → Sends xs net net1 handed handed1 sent sent1 → Sends ys net1 net2 handed1 handed2 sent1 sent2 → Sends (xs ++ ys) net net2 handed handed2 sent sent2

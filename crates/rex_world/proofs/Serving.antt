@@ -20,7 +20,7 @@ use Rattle.rex_world.proofs.Ranges.{all_fit, is_behind}
 use Rattle.rex_world.proofs.Settling.{settled, tells_step}
 use Rattle.rex_world.proofs.Shown.{ask_releases, checkpoint_releases, cut_releases, drop_releases, elect_releases, lane_releases, receive_releases, replay_releases, start_releases, stop_releases, submit_releases}
 use Rattle.rex_world.proofs.Stepping.{elect_runs, front_known, kept_next, starts_from}
-use Rattle.rex_world.proofs.Unseen.{Goes, active_either, ask_either, checkpoint_either, cut_either, drop_either, elect_either, receive_either, replay_either}
+use Rattle.rex_cluster.proofs.Unseen.{Goes, active_either, ask_either, checkpoint_either, cut_either, drop_either, elect_either, receive_either, replay_either}
 use Rattle.rex_world.proofs.Working.{can_be_cut, room}
 
 -- a step that sends nothing tells no state

@@ -1,13 +1,12 @@
 -- Replies are released by nodes that are up and active, and there stays a number for each client.
-use Rattle.rex_world.proofs.Common.{◌≡◌, ℕ, zero, suc, ◌<◌, Bool, true, false, cond, List, [], ◌∷◌, length, get_or, Option, Some, None, refl, sym, subst, ◌∙◌, inl, inr, arith, length-set, ◌==◌, nat_lt, slice_get, slice_index_or, All, Request, Declarations, IsService, IsChecked, RequestFits, Effect, StateValue, Version, Rec, base, Content, Failure, Service, is_active, After, append, ask, begin, checkpoint, elect, receive, replay, say, start, stop, Value, service_of, Here, CallHere, active_only, cut, submit_request, seen_by_release, seen_by_releases, IsAmong, AreReleased}
+use Rattle.rex_world.proofs.Common.{◌≡◌, ℕ, zero, suc, ◌<◌, true, List, [], ◌∷◌, length, get_or, Option, Some, None, refl, sym, subst, ◌∙◌, inl, inr, arith, length-set, slice_get, slice_index_or, All, Request, Declarations, IsService, IsChecked, RequestFits, Effect, StateValue, Version, Content, Service, is_active, ask, begin, checkpoint, elect, receive, replay, start, stop, Value, service_of, Here, CallHere, active_only, cut, submit_request, seen_by_release, seen_by_releases, IsAmong, AreReleased}
 use Rattle.rex_cluster.specs.Calls.{drop_known}
 use Rattle.std.proofs.Common.{max}
 use Rattle.std.proofs.lemmas.Bool.{false≢true}
-use Rattle.rex_report.specs.declared.effect.Effect.TheVariants as effect
 use Rattle.rex_cluster.specs.Lanes.{lane_turn}
 use Rattle.rex_cluster.proofs.Saying.{quiet_none, start_quiet, elect_says, receive_says, replay_says, checkpoint_says, drop_says, stop_says}
 use Rattle.rex_cluster.proofs.Replies.{SaysHere, StandsIn, replies_stand, quietly, submit_says, turn_says, cut_tells}
-use Rattle.rex_safety.proofs.Staying.{elect_up, receive_up, submit_up, cut_up, active_up}
+use Rattle.rex_safety.proofs.Staying.{active_up, checkpoint_up, cut_up, drop_up, elect_up, receive_up, replay_up, submit_up}
 
 -- ---- numbers of clients
 
@@ -36,16 +35,6 @@ one_released {es} {i} d l is h = record { leads = λ c s v. elim [ inl y ↦ h.l
 abbrev UpIfActive : CallHere → Type 0
 UpIfActive d = is_active d.node.role ≡ true → d.node.up ≡ true
 
--- so it is after each call of a node that is up
-if_up : (t : Bool) (d e : CallHere) → UpIfActive d → UpIfActive e → UpIfActive (cond t d e)
-if_up true d e p q = p
-if_up false d e p q = q
-
-append_up : (a : Option Failure) (me : ℕ) (r : Rec Value StateValue) (d : CallHere) (e : Effect) → d.node.up ≡ true → UpIfActive (append a me r d (say e))
-append_up None me r d e up = λ active. up
-append_up (Some (After (suc before) kept)) me r d e up = λ active. up
-append_up (Some (After zero kept)) me r d e up = λ active. absurd (false≢true active)
-
 module _ {service : Declarations} (good : IsService service) (checked : IsChecked service) (seed n me : ℕ) where
   abbrev sv : Service Value StateValue
   sv = service_of service seed
@@ -70,27 +59,24 @@ module _ {service : Declarations} (good : IsService service) (checked : IsChecke
       (active_up service seed n me _ (begin x) _ up (submit_up service seed n me _ (begin x) up)).at
 
   pub lane_releases : (done lane : ℕ) → Releases (λ d. active_only (is_active d.node.role) d (lane_turn service done lane d))
-  lane_releases done lane x up = by_active (turn_says service good checked seed n me done lane (begin x) quiet_none) (by (is_active x.role))
-    where
-      by : (t : Bool) → UpIfActive (active_only t (begin x) (lane_turn service done lane (begin x)))
-      by true = λ active. up
-      by false = λ active. up
+  lane_releases done lane x up =
+      by_active (turn_says service good checked seed n me done lane (begin x) quiet_none)
+      (active_up service seed n me _ (begin x) (lane_turn service done lane (begin x)) up (record { at = λ active. up })).at
 
   pub cut_releases : (counts : List ℕ) → Releases (cut service seed n me counts)
   cut_releases counts x up = by_active (cut_tells service good checked seed n me counts (begin x) quiet_none) (cut_up service seed n me counts (begin x) up).at
 
   pub replay_releases : Releases (replay me)
-  replay_releases x up = by_active (replay_says n sv me _ (replies_stand service good checked) (begin x) quiet_none) (if_up _ _ _ (λ active. up) (λ active. up))
+  replay_releases x up = by_active (replay_says n sv me _ (replies_stand service good checked) (begin x) quiet_none) (replay_up me (begin x) up).at
 
   pub checkpoint_releases : (version : Version) → Releases (checkpoint version (service_of service seed) me)
   checkpoint_releases version x up =
       by_active (checkpoint_says n sv me (StandsIn service good checked) (replies_stand service good checked) version (begin x) quiet_none)
-      (if_up (x.replayed == base x.log) _ _ (λ active. up) (if_up (nat_lt 0 (length x.work.live)) _ _ (λ active. up) (append_up x.armed me _ (begin x) (effect.Checkpointed me x.replayed) up)))
+      (checkpoint_up version sv me (begin x) up).at
 
   pub drop_releases : Releases (drop_known me)
   drop_releases x up =
-      by_active (drop_says n sv me _ (replies_stand service good checked) (begin x) quiet_none)
-      (if_up _ _ _ (λ active. up) (append_up x.armed me _ (begin x) _ up))
+      by_active (drop_says n sv me _ (replies_stand service good checked) (begin x) quiet_none) (drop_up me (begin x) up).at
 
   pub ask_releases : (other : ℕ) → Releases (ask me other)
   ask_releases other x up = by_active (quietly service good checked seed n me (ask me other (begin x)) quiet_none) (λ active. up)

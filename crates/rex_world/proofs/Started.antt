@@ -9,7 +9,7 @@ use Rattle.rex_world.specs.Starting.{CameBack}
 use Rattle.rex_world.proofs.Acted.{does_stays}
 use Rattle.rex_world.proofs.Failing.{follows, is_done}
 use Rattle.rex_world.proofs.Knowing.{count_known}
-use Rattle.rex_world.proofs.Unseen.{migrate_either}
+use Rattle.rex_cluster.proofs.Unseen.{migrate_either}
 
 module _ {service : Declarations} {past : List Value} {old : Member} (member : IsMember service past old.seed old.nodes old.id old) (up : old.up ≡ true) where
   abbrev h : Here

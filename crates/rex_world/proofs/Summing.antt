@@ -5,7 +5,7 @@ use Rattle.rex_cluster.specs.Quorum.{IsNode}
 use Rattle.rex_safety.specs.Keeping.{KeptValuesFit}
 use Rattle.rex_world.specs.declared.summary.Summary.{Summary}
 use Rattle.rex_world.specs.Summaries.{last_world, summary_of}
-use Rattle.rex_world.proofs.Headlines.{fit_run}
+use Rattle.rex_cluster.proofs.Replies.{fits_run as fit_run}
 use Rattle.rex_world.proofs.Agreeing.{holds_of_longest}
 
 -- the agreed values of a running world fit

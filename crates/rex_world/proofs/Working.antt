@@ -11,7 +11,7 @@ use Rattle.rex_safety.specs.Keeping.{AreCounts}
 use Rattle.rex_cluster.proofs.Few.{counts_are_few}
 use Rattle.rex_safety.proofs.Spelled.{kept_room, kept_cut}
 use Rattle.rex_node.specs.Calls.{CanBeCut}
-use Rattle.rex_world.proofs.Headlines.{fit_run}
+use Rattle.rex_cluster.proofs.Replies.{fits_run as fit_run}
 use Rattle.rex_world.proofs.Placed.{here_is, member_is}
 
 -- it is active, or has no live events

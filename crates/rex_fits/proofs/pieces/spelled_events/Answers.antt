@@ -1,5 +1,5 @@
 use Rattle.std.proofs.Common.{sym, ◌∙◌}
-use Rattle.rex_node.proofs.Spelled.{spelled_counted}
+use Rattle.rex_cluster.proofs.Spelled.{spelled_counted}
 use Rattle.rex_fits.proofs.Spellings.{found_events}
 use Rattle.rex_fits.proofs.pieces.spelled_events.Goals as goal
 

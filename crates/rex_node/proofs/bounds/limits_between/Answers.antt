@@ -1,5 +1,5 @@
 use Rattle.rex_node.proofs.Common.{◌+◌, min, ◌∷◌, [], ◌++◌, get_or, refl, ap, ◌∙◌}
-use Rattle.rex_node.proofs.Limited.{limits_more}
+use Rattle.rex_cluster.proofs.Between.{limits_more}
 use Rattle.rex_node.proofs.bounds.limits_between.Goals as goal
 
 pub loop-lane-preserved : goal.loop-lane-preserved

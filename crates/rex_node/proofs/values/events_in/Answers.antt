@@ -1,4 +1,4 @@
-use Rattle.rex_node.proofs.Spelled.{spelled_counted}
+use Rattle.rex_cluster.proofs.Spelled.{spelled_counted}
 use Rattle.rex_node.proofs.Alone.{read_events}
 use Rattle.rex_node.proofs.values.events_in.Goals as goal
 

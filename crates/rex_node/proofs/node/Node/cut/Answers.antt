@@ -2,7 +2,7 @@ use Rattle.rex_node.proofs.Common.{length, ap, ◌∙◌, refl, option_copied, c
 use Rattle.rex_node.proofs.Ending.{HasCome, told, down, left, kept}
 use Rattle.rex_node.proofs.OwnPieces.{cut_ends, cut_short, if_then}
 use Rattle.rex_node.proofs.ProposedCuts.{on_error}
-use Rattle.rex_node.proofs.Quiet.{cut_well}
+use Rattle.rex_cluster.proofs.Quiet.{cut_well}
 use Rattle.rex_node.proofs.Told.{steps_tell}
 use Rattle.rex_cluster.proofs.TellNone.{cut_tells_none}
 use Rattle.rex_node.proofs.node.Node.cut.Given.{Over}

@@ -1,7 +1,8 @@
 use Rattle.rex_node.proofs.Common.{length, refl, sym, ap, ◌∙◌, service_of, here_of, whole}
 use Rattle.rex_cluster.specs.Calls as calls
 use Rattle.rex_node.proofs.Ending.{HasCome, told, down, left, kept}
-use Rattle.rex_node.proofs.Quiet.{dropped_well, replies_quiet}
+use Rattle.rex_cluster.proofs.CallLaws.{replies_quiet}
+use Rattle.rex_cluster.proofs.Quiet.{dropped_well}
 use Rattle.rex_node.proofs.node.Node.drop_known.Given as given
 use Rattle.rex_node.proofs.node.Node.drop_known.Goals as goal
 

@@ -1,7 +1,8 @@
 use Rattle.rex_node.proofs.Common.{◌≡◌, length, true, refl, sym, ap, subst, ◌∙◌, receive, CallHere, known, service_of, values_fit, content_in, whole}
 use Rattle.rex_node.proofs.Ending.{HasCome, begins, told, down, left, kept}
 use Rattle.rex_node.proofs.Executing.{up_of}
-use Rattle.rex_node.proofs.Quiet.{receive_well, replies_quiet}
+use Rattle.rex_cluster.proofs.CallLaws.{replies_quiet}
+use Rattle.rex_cluster.proofs.Quiet.{receive_well}
 use Rattle.rex_node.proofs.AsTold.{finish_keeps, none_kept, then_kept}
 use Rattle.rex_node.proofs.node.Node.on_message.Given as given
 use Rattle.rex_node.proofs.node.Node.on_message.Goals as goal

@@ -1,15 +1,24 @@
--- What a proposer and an acceptor count and report is what the cluster's model does.
-use Rattle.rex_node.proofs.Common.{◌≡◌, ℕ, zero, suc, ◌+◌, ◌-◌, ◌*◌, ◌<◌, ◌≤◌, Bool, true, false, cond, ◌||◌, eqb, leb, ltb, List, [], ◌∷◌, ◌++◌, length, Option, Some, None, refl, sym, ap, ◌∙◌, arith, ltb-true, not, map, nat_lt, nat_le, option_map, All, map-append, same_Some, eqb-false, ne_eqb, le-ltb, le-leb, lt-leb, leb-true, leb-false, All-head, All-tail, Kept, IsOneOf, AreCounted, is_counted, IsBest, best_for, Proposal, is_in, is_majority, ballot_above, round_of, best, Value, proposal_in}
-use Rattle.std.proofs.Common.{◌/◌, eqb-true, lt-ltb, eq-eqb}
-use Rattle.std.specs.List.{AllByRecursion}
+-- What a proposer counts, adopts and takes for its ballot is what the model does.
+use Rattle.std.proofs.Common.{◌≡◌, ℕ, zero, suc, ◌+◌, ◌-◌, ◌*◌, ◌<◌, ◌≤◌, Bool, true, false, cond, ◌||◌, eqb, leb, ltb, List, [], ◌∷◌, ◌++◌, length, Option, Some, None, refl, sym, ap, ◌∙◌, arith, ltb-true, not, ◌/◌, eqb-true, lt-ltb, eq-eqb}
+use Rattle.std.specs.Prelude.{map, nat_lt, nat_le, option_map}
+use Rattle.std.specs.List.{All, AllByRecursion}
+use Rattle.std.proofs.lemmas.List.{map-append}
+use Rattle.std.proofs.lemmas.Option.{same_Some}
+use Rattle.std.proofs.lemmas.Bool.{eqb-false, ne_eqb, le-ltb, le-leb, lt-leb, leb-true, leb-false}
+use Rattle.std.proofs.lemmas.List.Elements.{All-head, All-tail}
+use Rattle.rex_ballot.specs.declared.proposal.Proposal.{Proposal as Kept}
+use Rattle.rex_paxos.specs.Counting.{IsOneOf, AreCounted, is_counted}
+use Rattle.rex_paxos.specs.Reports.{IsBest, best_for, HasNone}
+use Rattle.rex_cluster.specs.Records.{Proposal}
+use Rattle.rex_cluster.specs.Quorum.{is_in, is_majority, ballot_above, round_of, count}
+use Rattle.rex_cluster.specs.Calls.{best, better}
+use Rattle.rex_cluster.specs.Values.{Value}
+use Rattle.rex_log.specs.Log.{proposal_in}
 use Rattle.std.specs.Option.{MatchOption}
 use Rattle.std.proofs.lemmas.Map.Keys.{IsDistinct-head, IsDistinct-tail}
+use Rattle.rex_paxos.proofs.Reports.{best_reports}
 use Rattle.rex_ballot.specs.Ballot as ballots
 use Rattle.rex_paxos.specs.Counting as counting
-use Rattle.rex_paxos.specs.Reports.{HasNone}
-use Rattle.rex_paxos.proofs.Reports.{best_reports}
-use Rattle.rex_cluster.specs.Quorum.{count}
-use Rattle.rex_cluster.specs.Calls.{better}
 
 -- ---- counting
 

@@ -1,11 +1,15 @@
 -- A value none of whose events replies to a client.
-use Rattle.rex_node.proofs.Common.{◌≡◌, ℕ, inl, inr, Bool, true, false, List, [], ◌∷◌, refl, ap, eqb-true, false≢true, Delta, Event, delta_in, replies_to, Value, events_of, read_delta}
-use Rattle.std.proofs.Common.{ℤ}
+use Rattle.std.proofs.Common.{◌≡◌, ℕ, inl, inr, Bool, true, false, List, [], ◌∷◌, refl, ap, ℤ}
+use Rattle.std.proofs.lemmas.Bool.{eqb-true, false≢true}
+use Rattle.rex_event.specs.declared.delta.Delta.{Delta}
+use Rattle.rex_event.specs.declared.event.Event.{Event}
+use Rattle.rex_delta.specs.Reading.{delta_in}
+use Rattle.rex_gate.specs.Numbers.{replies_to, is_reply_to}
+use Rattle.rex_cluster.specs.Values.{Value, events_of, read_delta}
 use Rattle.std.specs.Prelude.{Result, Ok, Err}
 use Rattle.rex_event.specs.declared.event.Kind.{Kind}
 use Rattle.rex_event.specs.declared.event.Kind.TheVariants.{Reply}
 use Rattle.rex_delta.specs.Replying.{RepliesToNone}
-use Rattle.rex_gate.specs.Numbers.{is_reply_to}
 
 -- a kind that is told to reply to the client does
 told : {client : ℕ} (kind : Kind) → is_reply_to client kind ≡ true → (value : ℤ) × (kind ≡ Reply client value)

@@ -1,17 +1,24 @@
 -- A checkpoint that a node's records have isn't of no values.
-use Rattle.rex_node.proofs.Common.{◌≡◌, ℕ, ◌<◌, Bool, true, false, cond, List, [], ◌∷◌, length, Result, Ok, Err, refl, sym, subst, arith, ◌==◌, max, nat_lt, fold, if◌then◌else◌, and_parts, Declarations, StateValue, KeptRec, Rec, base, has_old_base, Value, log_of, log_with, rec_of, standing_in, first_length}
-use Rattle.std.specs.Prelude.{◌&&◌}
+use Rattle.std.proofs.Common.{◌≡◌, ℕ, ◌<◌, Bool, true, false, cond, List, [], ◌∷◌, length, Result, Ok, Err, refl, sym, subst, arith}
+use Rattle.std.specs.Prelude.{◌==◌, max, nat_lt, fold, if◌then◌else◌, ◌&&◌}
+use Rattle.std.proofs.lemmas.Bool.{and_parts, ltb-true}
+use Rattle.rex_syntax.specs.declared.service.Declarations.{Declarations}
+use Rattle.rex_state.specs.Value.{StateValue}
+use Rattle.rex_durable.specs.declared.records.Rec.{Rec as KeptRec}
+use Rattle.rex_cluster.specs.Records.{Rec, base, has_old_base}
+use Rattle.rex_cluster.specs.Values.{Value}
+use Rattle.rex_log.specs.Log.{log_of, log_with, rec_of, standing_in}
+use Rattle.rex_log.proofs.Firsts.{first_length}
 use Rattle.std.specs.Int.{w8, w32, w64}
 use Rattle.std.proofs.Math.Nat.{le-max_left}
-use Rattle.std.proofs.lemmas.Bool.{ltb-true}
 use Rattle.rex_ballot.specs.Ballot.{is_ballot, is_instance}
 use Rattle.rex_wire.specs.Ranges.{is_between}
 use Rattle.rex_wire.specs.Reading.{Left, ◌>>=◌, number_at, allowed_at, value_at, all_left}
 use Rattle.rex_wire.proofs.Fields.{bind_ok, ok_is, test_ok}
 use Rattle.rex_wire.proofs.Ranges.{allowed_is, is_between-true}
-use Rattle.rex_durable.specs.declared.records.Rec.TheVariants as rec
 use Rattle.rex_durable.specs.Reading.{promised_at, accepted_at, known_at, checkpoint_at, dropped_at, transferred_at, content_at, record_at, record_in}
 use Rattle.rex_durable.specs.declared.records.Standing.{Standing}
+use Rattle.rex_durable.specs.declared.records.Rec.TheVariants as rec
 
 -- ---- what is read
 
