@@ -1,5 +1,5 @@
 -- What a call of a node has to do: the same as its row of the cluster's model.
-use Rattle.std.specs.Prelude.{◌≡◌, ◌⊎◌, ℕ, suc, ◌+◌, ◌<◌, ◌≤◌, ◌==◌, Bool, true, false, nat_lt, nat_le, ℤ, List, [], ◌∷◌, ◌++◌, length, map, Result, Ok, Err, Option, Some, None, if◌then◌else◌}
+use Rattle.std.specs.Prelude.{◌≡◌, ◌⊎◌, ℕ, suc, ◌+◌, ◌<◌, ◌≤◌, ◌==◌, Bool, true, false, nat_lt, nat_le, ℤ, List, [], ◌∷◌, ◌++◌, length, map, Result, Ok, Err, Option, Some, None, IfOk, if◌then◌else◌}
 use Rattle.rand_pcg.specs.Pcg.{pcg32}
 use Rattle.rex_syntax.specs.declared.service.Declarations.{Declarations}
 use Rattle.rex_state.specs.Value.{StateValue}
@@ -19,16 +19,43 @@ use Rattle.rex_traits.specs.declared.keeper.KeepFault.TheVariants.{Failed}
 use Rattle.rex_cluster.specs.Node.{Failure, Role, role_name, is_active, down_node}
 use Rattle.rex_cluster.specs.Node.Failure.{After}
 use Rattle.rex_cluster.specs.Node.Role.{Follower, Leads}
-use Rattle.rex_cluster.specs.Calls.{begin}
-use Rattle.rex_cluster.specs.Values.{Value, greatest_value}
-use Rattle.rex_cluster.specs.Lanes.{Here, CallHere, live_state, no_limits, with_limits, value_at}
+use Rattle.rex_cluster.specs.Calls.{begin, checkpoint, elect, on_promise, on_snapshot, on_voted, receive}
+use Rattle.rex_cluster.specs.Values.{Value, greatest_value, service_of}
+use Rattle.rex_cluster.specs.Lanes.{Here, CallHere, cut as cut_here, live_state, no_limits, with_limits, value_at}
 use Rattle.rex_node.specs.declared.refusal.Refusal.{Refusal}
 use Rattle.rex_node.specs.declared.refusal.Refusal.TheVariants as why
 use Rattle.rex_node.specs.declared.step.Step.{Step}
-use Rattle.rex_log.specs.Messages.{message_in}
+use Rattle.rex_ballot.specs.declared.proposal.Proposal.{Proposal as Kept}
+use Rattle.rex_msg.specs.declared.message.Message.{Message}
+use Rattle.rex_syntax.specs.declared.version.Version.{Version}
+use Rattle.rex_log.specs.Log.{first, proposal_in}
+use Rattle.rex_log.specs.Messages.{content_in, message_in}
 use Rattle.rex_node.specs.Stated.{AreStated}
 use Rattle.rex_node.specs.Parts.{NodeValue, RunsShort, Stands, failed_records, here_of}
 use Rattle.rex_ballot.specs.declared.ballots.TheConstants.{INSTANCES, ROUNDS}
+
+-- ---- the model's calls of this node
+
+abbrev pub elect_call : {K : Type 0} → Declarations → NodeValue K → CallHere → CallHere
+elect_call service x = elect x.nodes (service_of service x.seed) x.id
+
+abbrev pub message_call : {K : Type 0} → Declarations → List Value → NodeValue K → Message → CallHere → CallHere
+message_call service past x m = receive x.nodes (service_of service x.seed) x.id m.from (content_in past m.content)
+
+abbrev pub promise_call : {K : Type 0} → Declarations → NodeValue K → ℕ → ℕ → List Kept → CallHere → CallHere
+promise_call service x from ballot reported = λ d. on_promise x.nodes (service_of service x.seed) x.id from ballot (map proposal_in reported) d d.node.role
+
+abbrev pub vote_call : {K : Type 0} → Declarations → NodeValue K → ℕ → ℕ → ℕ → CallHere → CallHere
+vote_call service x from ballot instance = λ d. on_voted x.nodes (service_of service x.seed) x.id from ballot instance d d.node.role
+
+abbrev pub snapshot_call : {K : Type 0} → Declarations → List Value → NodeValue K → ℕ → CallHere → CallHere
+snapshot_call service past x deltas = on_snapshot (service_of service x.seed) x.id (first deltas past)
+
+abbrev pub checkpoint_call : {K : Type 0} → Version → Declarations → NodeValue K → CallHere → CallHere
+checkpoint_call version service x = checkpoint version (service_of service x.seed) x.id
+
+abbrev pub cut_call : {K : Type 0} → Declarations → NodeValue K → List ℕ → CallHere → CallHere
+cut_call service x counts = cut_here service x.seed x.nodes x.id counts
 
 -- ---- steps
 
@@ -79,6 +106,10 @@ Does records gives faults service past call old new step =
 abbrev pub LeadsTo : (CallHere → CallHere) → Here → Here → Type 0
 LeadsTo call before after = after ≡ (call (begin before)).node
 
+-- so it is of the nodes that these parts are
+abbrev pub LeadsNode : {K : Type 0} → (K → List (List ℕ)) → Declarations → List Value → (CallHere → CallHere) → (old new : NodeValue K) → Type 0
+LeadsNode records service past call old new = LeadsTo call (here_of records service past old) (here_of records service past new)
+
 -- the last effect
 abbrev pub last_of : List Effect → Option Effect
 last_of [] = None
@@ -91,6 +122,10 @@ pub record EndsDown (id before after : ℕ) (up : Bool) (step : Step) : Type 0 w
   pub only : last_of step.effects ≡ Some (effect.Down id) → before < after
   pub quiet : before < after → step.sends ≡ []
   pub falls : before < after → up ≡ false
+
+-- so a call ends, where it answers a step
+abbrev pub TellsDown : {K : Type 0} → (K → ℕ) → (old new : NodeValue K) → Result Step Refusal → Type 0
+TellsDown faults old new result = IfOk result (EndsDown old.id (faults old.keeper) (faults new.keeper) new.up)
 
 -- ---- refusals
 
@@ -117,6 +152,10 @@ refusal_up h = if_up h.up None
 -- of a call that only an active node does
 abbrev pub refusal_active : Here → Option Refusal
 refusal_active h = if_up h.up (if_active h.role None)
+
+-- a node that isn't active refuses to
+abbrev pub RefusesIdle : {K A : Type 0} → (K → List (List ℕ)) → Declarations → List Value → NodeValue K → Result A Refusal → Type 0
+RefusesIdle records service past x result = Refuses (refusal_active (here_of records service past x)) result
 
 -- of an election: no round is left
 abbrev pub refusal_of_elect : ℕ → Here → Option Refusal
@@ -154,6 +193,9 @@ refusal_of_cut h many = if_up h.up (if_active h.role (refusal_of_lead h.role man
 abbrev pub refusal_of_none : List Event → Option Refusal
 refusal_of_none [] = Some why.Nothing
 refusal_of_none (e ∷ es) = None
+
+abbrev pub refusal_of_piece : Here → List ℕ → Option Refusal
+refusal_of_piece h counts = refusal_of_none (below (greatest_cut counts h.work.live) h.work.live)
 
 -- a call answers the first refusal that is due; the second one takes memory to find, and yields to want of it
 abbrev pub RefusesThen : {A : Type 0} → Option Refusal → Option Refusal → Result A Refusal → Type 0

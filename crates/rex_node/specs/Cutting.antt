@@ -1,5 +1,6 @@
 -- What a cut of what is executed proposes.
-use Rattle.std.specs.Prelude.{◌≡◌, ◌⊎◌, ℕ, ◌+◌, ◌<◌, Bool, true, false, List, [], length, is_some, Result, Ok, Err, Option, Some, None, option_map}
+use Rattle.std.specs.Prelude.{◌≡◌, ◌⊎◌, ℕ, ◌+◌, ◌<◌, Bool, true, false, List, [], length, is_some, Result, Ok, Err, Option, Some, None, IfOk, OnErr, option_map}
+use Rattle.std.specs.declared.alloc.AllocError.{AllocError}
 use Rattle.rex_event.specs.Cuts.{below}
 use Rattle.rex_cut.specs.Greatest.{greatest_cut}
 use Rattle.rex_cut.specs.Delta.{delta_at}
@@ -21,7 +22,7 @@ use Rattle.rex_node.specs.declared.refusal.Refusal.TheVariants as why
 use Rattle.rex_node.specs.Calls.{AreLimits, CutIsSpelled}
 use Rattle.rex_node.specs.Going.{BreaksOff, Ends}
 use Rattle.rex_node.specs.Leading.{FromLead}
-use Rattle.rex_node.specs.Parts.{ActingValue, NodeValue, Stands, open_of}
+use Rattle.rex_node.specs.Parts.{ActingValue, IsSame, NodeValue, Stands, open_of, whole}
 use Rattle.rex_ballot.specs.declared.ballots.TheConstants.{INSTANCES}
 
 -- the counts below which a cut is made: all live events, or at most so many of each lane
@@ -116,6 +117,12 @@ ProposesCutShort records gives faults service past events value old new before =
     (λ d. propose old.nodes old.id (effect.Proposes old.id (length old.known + 1) events) d l (length old.known + 1) value (settle (enough l.reported) old.nodes (service_of service old.seed) old.id))
     old new before)
 
+-- so it is, or memory was short; and the node is the same
+pub record ProposesCutOr {K : Type 0} (records : K → List (List ℕ)) (gives : K → List ℕ → Answer → K → Type 0) (faults : K → ℕ) (service : Declarations) (past : List Value) (events : ℕ) (value : Value) (old new : NodeValue K) (before after : Draft) (result : Result Going AllocError) : Type 0 where
+  pub ends : IfOk result (ProposesCut records gives faults service past events value (whole past old) (whole past new) before after)
+  pub stuck : OnErr result (ProposesCutShort records gives faults service past events value (whole past old) (whole past new) before)
+  pub same : IsSame (whole past old) (whole past new)
+
 -- the same of a cut, whose value and events are those of what is executed
 abbrev pub ProposesPiece : {K : Type 0} → (K → List (List ℕ)) → (K → List ℕ → Answer → K → Type 0) → (K → ℕ) → Declarations → List Value → List ℕ → (old new : NodeValue K) → (before after : Draft) → Going → Type 0
 ProposesPiece records gives faults service past cut old new before after going =
@@ -124,3 +131,8 @@ ProposesPiece records gives faults service past cut old new before after going =
 abbrev pub ProposesPieceShort : {K : Type 0} → (K → List (List ℕ)) → (K → List ℕ → Answer → K → Type 0) → (K → ℕ) → Declarations → List Value → List ℕ → (old new : NodeValue K) → Draft → Type 0
 ProposesPieceShort records gives faults service past cut old new before =
     Stands records faults gives old new ⊎ FromLead old (λ l. BreaksOff records gives faults service past (propose_cut service old.seed old.nodes old.id cut l) old new before)
+
+pub record ProposesPieceOr {K : Type 0} (records : K → List (List ℕ)) (gives : K → List ℕ → Answer → K → Type 0) (faults : K → ℕ) (service : Declarations) (past : List Value) (cut : List ℕ) (old new : NodeValue K) (before after : Draft) (result : Result Going AllocError) : Type 0 where
+  pub ends : IfOk result (ProposesPiece records gives faults service past cut (whole past old) (whole past new) before after)
+  pub stuck : OnErr result (ProposesPieceShort records gives faults service past cut (whole past old) (whole past new) before)
+  pub same : IsSame (whole past old) (whole past new)

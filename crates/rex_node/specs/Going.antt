@@ -1,5 +1,5 @@
 -- What a part of a call does: it goes on to the next part, or its append fails and the node is down.
-use Rattle.std.specs.Prelude.{◌≡◌, ◌⊎◌, ℕ, suc, ◌+◌, ◌*◌, ◌<◌, ◌≤◌, true, false, nat_lt, List, [], ◌∷◌, ◌++◌, length, map, Result, Ok, Err, Option, Some, None, IfSome, if◌then◌else◌}
+use Rattle.std.specs.Prelude.{◌≡◌, ◌⊎◌, ℕ, suc, ◌+◌, ◌*◌, ◌<◌, ◌≤◌, true, false, nat_lt, List, [], ◌∷◌, ◌++◌, length, map, Result, Ok, Err, Option, Some, None, IfOk, IfSome, OnErr, if◌then◌else◌}
 use Rattle.std.specs.declared.alloc.AllocError.{AllocError}
 use Rattle.rex_ballot.specs.declared.proposal.Proposal.{Proposal as Kept}
 use Rattle.rex_msg.specs.declared.message.Message.{Message}
@@ -28,7 +28,7 @@ use Rattle.rex_node.specs.declared.step.Step.{Step}
 use Rattle.rex_log.specs.Messages.{message_in}
 use Rattle.rex_node.specs.Stated.{AreStated}
 use Rattle.rex_log.specs.Log.{log_of}
-use Rattle.rex_node.specs.Parts.{NodeValue, IsDown, IsKept, IsResting, Keeps, Falls, Stands, fallen, here_of}
+use Rattle.rex_node.specs.Parts.{NodeValue, IsDown, IsKept, IsResting, IsSame, Keeps, Falls, Stands, fallen, here_of, whole as all_of}
 use Rattle.rex_node.specs.Calls.{armed_with, FailsAfter, StopsShort}
 
 -- the call of the model that has come to this node, and has sent and reported what the draft has
@@ -104,6 +104,12 @@ pub record BreaksOff {K : Type 0} (records : K → List (List ℕ)) (gives : K �
 abbrev pub IsStuck : {K : Type 0} → (K → List (List ℕ)) → (K → List ℕ → Answer → K → Type 0) → (K → ℕ) → Declarations → List Value → (CallHere → CallHere) → (old new : NodeValue K) → Draft → Type 0
 IsStuck records gives faults service past whole old new before = Stands records faults gives old new ⊎ BreaksOff records gives faults service past whole old new before
 
+-- what a part of a call comes to that is this one of the model to its end: it ends so, or memory was short; and the node is the same
+pub record Goes {K : Type 0} (records : K → List (List ℕ)) (gives : K → List ℕ → Answer → K → Type 0) (faults : K → ℕ) (service : Declarations) (past : List Value) (call : CallHere → CallHere) (old new : NodeValue K) (before after : Draft) (result : Result Going AllocError) : Type 0 where
+  pub ends : IfOk result (Ends records gives faults service past call (all_of past old) (all_of past new) before after)
+  pub stuck : OnErr result (IsStuck records gives faults service past call (all_of past old) (all_of past new) before)
+  pub same : IsSame (all_of past old) (all_of past new)
+
 -- what is left of a call appends nothing where its first append fails and loses its record
 abbrev pub LosesFirst : (CallHere → CallHere) → Type 0
 LosesFirst rest = (d : CallHere) → (rest (armed_with (Some (After 0 false)) d)).node.log ≡ d.node.log
@@ -112,6 +118,12 @@ LosesFirst rest = (d : CallHere) → (rest (armed_with (Some (After 0 false)) d)
 abbrev pub Appends : {K : Type 0} → (K → List (List ℕ)) → (K → ℕ) → (K → List ℕ → Answer → K → Type 0) → (old new : NodeValue K) → (before after : Draft) → List ℕ → Going → Type 0
 Appends records faults gives old new before after bytes On = Keeps records faults gives old new bytes × (after.effects.items ≡ before.effects.items) × (after.sends.items ≡ before.sends.items)
 Appends records faults gives old new before after bytes Down = Falls records faults gives old new bytes × (after.effects.items ≡ before.effects.items ++ effect.Down old.id ∷ []) × (after.sends.items ≡ [])
+
+-- so an append comes out, or memory was short and nothing has changed; and the node is the same
+pub record AppendsOr {K : Type 0} (records : K → List (List ℕ)) (faults : K → ℕ) (gives : K → List ℕ → Answer → K → Type 0) (past : List Value) (old new : NodeValue K) (before after : Draft) (bytes : List ℕ) (result : Result Going AllocError) : Type 0 where
+  pub appends : IfOk result (Appends records faults gives (all_of past old) (all_of past new) before after bytes)
+  pub stands : OnErr result (Stands records faults gives (all_of past old) (all_of past new))
+  pub same : IsSame (all_of past old) (all_of past new)
 
 -- a call ends as it came: with the step of its draft, or without memory, and then with its node down where its keeper has more records than before
 abbrev pub Finishes : {K : Type 0} → (K → List (List ℕ)) → ℕ → Draft → Result Going AllocError → (old new : NodeValue K) → Result Step Refusal → Type 0

@@ -1,5 +1,6 @@
 -- What the parts of a call do by which a node that leads, or asks to, goes on.
-use Rattle.std.specs.Prelude.{◌≡◌, ℕ, ◌-◌, ◌<◌, ◌≤◌, ◌&&◌, Bool, true, false, not, List, [], ◌∷◌, ◌++◌, length, map, unwrap_or, is_some, is_none, Option, Some, None, option_map, IfSome, IsSome, ◌⊎◌, ◌+◌, ◌^◌}
+use Rattle.std.specs.Prelude.{◌≡◌, ℕ, ◌-◌, ◌<◌, ◌≤◌, ◌&&◌, Bool, true, false, not, List, [], ◌∷◌, ◌++◌, length, map, unwrap_or, is_some, is_none, Option, Some, None, option_map, IfOk, IfSome, IsSome, OnErr, Result, ◌⊎◌, ◌+◌, ◌^◌}
+use Rattle.std.specs.declared.alloc.AllocError.{AllocError}
 use Rattle.rex_ballot.specs.Ballot.{IsInstance}
 use Rattle.rex_ballot.specs.Proposals.{IsValue}
 use Rattle.rex_ballot.specs.declared.proposal.Proposal.{Proposal as Kept}
@@ -27,8 +28,8 @@ use Rattle.rex_node.specs.declared.going.Going.TheVariants.{On, Down}
 use Rattle.rex_node.specs.declared.going.Round.{Round}
 use Rattle.rex_node.specs.declared.going.Round.TheVariants.{Again, Done}
 use Rattle.rex_node.specs.declared.step.Draft.{Draft}
-use Rattle.rex_node.specs.Parts.{NodeValue, ActingValue, IsCutAt, IsKept, Stands, lead_of, reached_at}
-use Rattle.rex_node.specs.Going.{BreaksOff, Comes, Ends, LosesFirst, HasTurns, RunsOn, so_far}
+use Rattle.rex_node.specs.Parts.{NodeValue, ActingValue, IsCutAt, IsKept, IsSame, Stands, lead_of, reached_at, whole}
+use Rattle.rex_node.specs.Going.{BreaksOff, Comes, Ends, IsStuck, LosesFirst, HasTurns, RunsOn, so_far}
 
 -- this holds of what the node leads with, where it does
 abbrev pub FromLead : {K : Type 0} → NodeValue K → (Lead Value → Type 0) → Type 0
@@ -82,6 +83,19 @@ abbrev pub HasOpened : {K : Type 0} → NodeValue K → NodeValue K → ℕ → 
 HasOpened old new instance value On = new ≡ record (opened old instance value) { keeper = new.keeper }
 HasOpened old new instance value Down = Unit {0}
 
+-- an append came after others where the call goes on
+abbrev pub IsLonger : {K : Type 0} → (K → List (List ℕ)) → NodeValue K → NodeValue K → Going → Type 0
+IsLonger records old new On = length (records old.keeper) < length (records new.keeper)
+IsLonger records old new Down = Unit {0}
+
+-- what a part of a call comes to that proposes a value: the proposal is open, or the node is down; or memory was short; and the node is the same
+pub record OpensOr {K : Type 0} (records : K → List (List ℕ)) (gives : K → List ℕ → Answer → K → Type 0) (faults : K → ℕ) (service : Declarations) (past : List Value) (told : Effect) (instance : ℕ) (value : Value) (old new : NodeValue K) (before after : Draft) (result : Result Going AllocError) : Type 0 where
+  pub opens : IfOk result (Opens records gives faults service past told instance value (whole past old) (whole past new) before after)
+  pub parts : IfOk result (HasOpened (whole past old) (whole past new) instance value)
+  pub longer : IfOk result (IsLonger records (whole past old) (whole past new))
+  pub stuck : OnErr result (OpensShort records gives faults service past told instance value (whole past old) (whole past new) before)
+  pub same : IsSame (whole past old) (whole past new)
+
 -- ---- knowing
 
 -- the call makes the value known that its node leads to
@@ -129,6 +143,14 @@ abbrev pub HasLearned : {K : Type 0} → Declarations → NodeValue K → NodeVa
 HasLearned service old new instance value On = new ≡ record (knowing service old instance value) { keeper = new.keeper }
 HasLearned service old new instance value Down = Unit {0}
 
+-- what a part of a call comes to that makes a value known: it is known, or the node is down; or memory was short; and the node is the same
+pub record LearnsOr {K : Type 0} (records : K → List (List ℕ)) (gives : K → List ℕ → Answer → K → Type 0) (faults : K → ℕ) (service : Declarations) (past : List Value) (instance : ℕ) (value : Value) (old new : NodeValue K) (before after : Draft) (result : Result Going AllocError) : Type 0 where
+  pub learns : IfOk result (Learns records gives faults service past instance value (whole past old) (whole past new) before after)
+  pub parts : IfOk result (HasLearned service (whole past old) (whole past new) instance value)
+  pub longer : IfOk result (IsLonger records (whole past old) (whole past new))
+  pub stuck : OnErr result (LearnsShort records gives faults service past instance value (whole past old) (whole past new) before)
+  pub same : IsSame (whole past old) (whole past new)
+
 -- ---- going on
 
 -- a node goes on where it leads, isn't active, has no open proposal, and a majority promised
@@ -172,11 +194,6 @@ pub record MaySettle {K : Type 0} (records : K → List (List ℕ)) (faults : K 
   pub runs : RunsOn service (settle turns x.nodes (service_of service x.seed) x.id) (so_far records service past x before)
   pub count : faults x.keeper < 2 ^ 64 - 1
 
--- an append came after others where the call goes on
-abbrev pub IsLonger : {K : Type 0} → (K → List (List ℕ)) → NodeValue K → NodeValue K → Going → Type 0
-IsLonger records old new On = length (records old.keeper) < length (records new.keeper)
-IsLonger records old new Down = Unit {0}
-
 -- the call comes to one that has two turns less, after more records; or that was the last round
 abbrev pub GoesRound : {K : Type 0} → (K → List (List ℕ)) → (K → List ℕ → Answer → K → Type 0) → (K → ℕ) → Declarations → List Value → ℕ → (old new : NodeValue K) → (before after : Draft) → Round → Type 0
 GoesRound records gives faults service past turns old new before after Again =
@@ -184,3 +201,9 @@ GoesRound records gives faults service past turns old new before after Again =
     × HasTurns new (turns - 2) × IsFree new.proposer (is_some new.acting) × (3 ≤ turns) × (length (records old.keeper) < length (records new.keeper))
 GoesRound records gives faults service past turns old new before after (Done going) =
     Ends records gives faults service past (settle turns old.nodes (service_of service old.seed) old.id) old new before after going
+
+-- so a round comes out, or memory was short; and the node is the same
+pub record GoesRoundOr {K : Type 0} (records : K → List (List ℕ)) (gives : K → List ℕ → Answer → K → Type 0) (faults : K → ℕ) (service : Declarations) (past : List Value) (turns : ℕ) (old new : NodeValue K) (before after : Draft) (result : Result Round AllocError) : Type 0 where
+  pub goes : IfOk result (GoesRound records gives faults service past turns (whole past old) (whole past new) before after)
+  pub stuck : OnErr result (IsStuck records gives faults service past (settle turns old.nodes (service_of service old.seed) old.id) (whole past old) (whole past new) before)
+  pub same : IsSame (whole past old) (whole past new)

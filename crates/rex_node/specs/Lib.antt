@@ -7,6 +7,7 @@ pub mod Going
 pub mod Leading
 pub mod Migrating
 pub mod Parts
+pub mod Performing
 pub mod Restarting
 pub mod Stated
 pub mod Submitting

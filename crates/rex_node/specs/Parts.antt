@@ -1,5 +1,5 @@
 -- A node's parts, and the node of the cluster's model that they are.
-use Rattle.std.specs.Prelude.{◌≡◌, ℕ, zero, suc, ◌<◌, ◌≤◌, ◌||◌, not, Bool, true, false, ◌+◌, List, [], ◌∷◌, ◌++◌, length, map, take, is_some, unwrap_or, Result, Ok, Err, Option, Some, None, option_map, ◌⊎◌, ◌==◌, if◌then◌else◌}
+use Rattle.std.specs.Prelude.{◌≡◌, ℕ, zero, suc, ◌<◌, ◌≤◌, ◌^◌, ◌-◌, ◌||◌, not, Bool, true, false, ◌+◌, List, [], ◌∷◌, ◌++◌, length, map, take, is_some, unwrap_or, Result, Ok, Err, Option, Some, None, option_map, ◌⊎◌, ◌==◌, if◌then◌else◌}
 use Rattle.std.specs.List.{All}
 use Rattle.rex_ballot.specs.Limits.{most_nodes}
 use Rattle.rand_pcg.specs.Lcg.{Lcg}
@@ -27,7 +27,7 @@ use Rattle.rex_event.specs.Cuts.{IsConsistent, IsWithin, below, beyond}
 use Rattle.rex_event.specs.declared.event.TheConstants.{CLIENTS, CLIENT_ENTRIES}
 use Rattle.rex_cluster.specs.Values.{Value, events_of, trace_of, values_fit, still_live}
 use Rattle.rex_cluster.specs.Ranges.{NodeFits}
-use Rattle.rex_cluster.specs.Invariant.{IsReplayed}
+use Rattle.rex_cluster.specs.Invariant.{Begins, IsReplayed}
 use Rattle.rex_traits.specs.declared.keeper.KeepFault.{KeepFault}
 use Rattle.rex_traits.specs.declared.keeper.KeepFault.TheVariants.{Failed, OutOfMemory}
 use Rattle.rex_traits.specs.Chains.{Answer}
@@ -95,6 +95,9 @@ abbrev pub role_of : AcceptorValue → Option ProposerValue → Bool → Role Va
 role_of a None active = Follower
 role_of a (Some p) active = Leads (lead_of a p active)
 
+abbrev pub role_in : {K : Type 0} → NodeValue K → Role Value
+role_in x = role_of x.acceptor x.proposer (is_some x.acting)
+
 abbrev pub work_of : Option ActingValue → Work
 work_of None = no_work
 work_of (Some a) = record { queue = a.recorder.queue; live = a.recorder.live; dice = a.dice }
@@ -128,7 +131,7 @@ here_of records service past x = record {
   log = log_of service past (records x.keeper);
   up = x.up;
   armed = None;
-  role = role_of x.acceptor x.proposer (is_some x.acting);
+  role = role_in x;
   work = work_of x.acting;
   replayed = x.replayed;
 }
@@ -281,6 +284,15 @@ pub record IsSame {K : Type 0} (before after : NodeValue K) : Type 0 where
   pub seed : after.seed ≡ before.seed
   pub decoded : after.decoded ≡ before.decoded
 
+-- the same node of the same cluster, with the same keeper, base and decoded snapshot
+pub record StaysPut {K : Type 0} (before after : NodeValue K) : Type 0 where
+  pub id : after.id ≡ before.id
+  pub nodes : after.nodes ≡ before.nodes
+  pub seed : after.seed ≡ before.seed
+  pub keeper : after.keeper ≡ before.keeper
+  pub base : after.base ≡ before.base
+  pub decoded : after.decoded ≡ before.decoded
+
 -- the same node of the same cluster, and kept
 pub record StaysResting {K : Type 0} (records : K → List (List ℕ)) (service : Declarations) (past : List Value) (before after : NodeValue K) : Type 0 where
   pub same : IsSame before after
@@ -292,6 +304,20 @@ IsNode records service past x = IsResting records service past (whole past x)
 
 abbrev pub StaysNode : {K : Type 0} → (K → List (List ℕ)) → Declarations → List Value → NodeValue K → NodeValue K → Type 0
 StaysNode records service past before after = StaysResting records service past (whole past before) (whole past after)
+
+-- what the node's records say that it knows is what the past begins with
+abbrev pub IsPastOf : {K : Type 0} → (K → List (List ℕ)) → Declarations → List Value → NodeValue K → Type 0
+IsPastOf records service past x = Begins (known (here_of records service past x).log) past
+
+-- the node's keeper can count one more failure
+abbrev pub CanFail : {K : Type 0} → (K → ℕ) → NodeValue K → Type 0
+CanFail faults x = faults x.keeper < 2 ^ 64 - 1
+
+-- what most parts of a call ask of a node: it is kept and up, and its keeper can count one more failure
+pub record MayCall {K : Type 0} (records : K → List (List ℕ)) (faults : K → ℕ) (service : Declarations) (past : List Value) (x : NodeValue K) : Type 0 where
+  pub node : IsNode records service past x
+  pub up : x.up ≡ true
+  pub count : CanFail faults x
 
 -- ---- leaving a role
 

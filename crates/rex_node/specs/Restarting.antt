@@ -1,6 +1,7 @@
 -- How a node comes up.
 use Rattle.std.specs.Int.{w32, from_be_bytes}
 use Rattle.std.specs.Prelude.{◌≡◌, ◌⊎◌, ◌==◌, ◌&&◌, not, nat_lt, ℕ, suc, ◌+◌, ◌≤◌, ◌-◌, ◌^◌, min, Bool, true, false, fold, take, length, List, [], ◌∷◌, Option, Some, None, Result, Ok, Err, if◌then◌else◌}
+use Rattle.std.specs.List.{list_all}
 use Rattle.rex_syntax.specs.declared.service.Declarations.{Declarations}
 use Rattle.rex_delta.specs.Reading.{delta_in}
 use Rattle.rex_snapshot.specs.Allowed.{version_in}
@@ -17,13 +18,13 @@ use Rattle.rex_cluster.specs.Records.{Rec as ModelRec, base, known, is_old, offs
 use Rattle.rex_cluster.specs.Agreed.{base_state}
 use Rattle.rex_cluster.specs.Node.{down_node}
 use Rattle.rex_cluster.specs.Calls.{begin, restart}
-use Rattle.rex_cluster.specs.Values.{Value, state_after, trace_of}
+use Rattle.rex_cluster.specs.Values.{Value, spells, state_after, trace_of, values_fit}
 use Rattle.rex_node.specs.declared.contents.Place.{Place}
 use Rattle.rex_node.specs.declared.restart.RestartFault.{RestartFault}
 use Rattle.rex_node.specs.declared.restart.RestartFault.TheVariants.{BadRecord, OutOfMemory}
-use Rattle.rex_log.specs.Log.{first, log_of}
+use Rattle.rex_log.specs.Log.{AreRead, first, log_of}
 use Rattle.rex_node.specs.Parts.{DecodedValue, NodeValue, ReachedValue, here_of}
-use Rattle.rex_node.specs.Stated.{is_state_kind}
+use Rattle.rex_node.specs.Stated.{AreStated, is_state_kind}
 
 -- ---- what records hold
 
@@ -129,6 +130,15 @@ HasRightBase service log = (s : StateValue) → base_state log ≡ Some s → (b
 -- what a node knows and doesn't hold are the first values of the past
 abbrev pub HasForgotten : List Value → List (ModelRec Value StateValue) → Type 0
 HasForgotten past log = first (offset_of log) past ≡ take (offset_of log) (known log)
+
+-- this holds where the values that the records say run, with the least causes, the last checkpoint is of the state to which they run, and what was forgotten stood before
+abbrev pub WhereRight : Declarations → List Value → List (List ℕ) → Type 0 → Type 0
+WhereRight service past records P =
+    values_fit service (known (log_of service past records)) ≡ true → HasRightBase service (log_of service past records) → HasForgotten past (log_of service past records) → P
+
+-- this holds where each record spells one, each state in them is spelled, and so is each delta
+abbrev pub WhereRead : Declarations → List Value → List (List ℕ) → Type 0 → Type 0
+WhereRead service past records P = AreRead service past records → AreStated service records → list_all (spells service) (known (log_of service past records)) ≡ true → P
 
 -- a node of the keeper that is down, and has nothing else that counts
 abbrev pub down_with : {K : Type 0} → (id nodes seed : ℕ) → StateValue → K → NodeValue K

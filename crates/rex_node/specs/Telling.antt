@@ -1,5 +1,5 @@
 -- States that are told, or taken over, for values that a node doesn't hold.
-use Rattle.std.specs.Prelude.{◌≡◌, ◌⊎◌, ℕ, suc, ◌<◌, ◌≤◌, ◌-◌, Bool, List, [], ◌∷◌, ◌++◌, drop, length, max, Result, Ok, Err, Option, Some, None, nat_le, if◌then◌else◌}
+use Rattle.std.specs.Prelude.{◌≡◌, ◌⊎◌, ℕ, suc, ◌<◌, ◌≤◌, ◌-◌, Bool, List, [], ◌∷◌, ◌++◌, drop, length, max, Result, Ok, Err, Option, Some, None, IfOk, OnOk, nat_le, if◌then◌else◌}
 use Rattle.std.specs.List.{All}
 use Rattle.rex_ballot.specs.Proposals.{IsValue}
 use Rattle.rex_paxos.specs.Acceptor.{forgetting}
@@ -22,6 +22,8 @@ use Rattle.rex_cluster.specs.Lanes.{Here}
 use Rattle.rex_log.specs.Log.{first}
 use Rattle.rex_node.specs.declared.refusal.Refusal.{Refusal}
 use Rattle.rex_node.specs.declared.refusal.Refusal.TheVariants as why
+use Rattle.rex_node.specs.declared.step.Draft.{Draft}
+use Rattle.rex_node.specs.declared.step.Step.{Step}
 use Rattle.rex_node.specs.Parts.{NodeValue}
 
 -- the first so many values of the past run to the state
@@ -49,6 +51,14 @@ IsTold service past _ = Unit {0}
 -- each message that tells a state does so
 abbrev pub AreTold : Declarations → List Value → List Message → Type 0
 AreTold service past ms = All (λ (m : Message). IsTold service past m.content) ms
+
+-- each message of a step does so, where a call answers one
+abbrev pub StepTells : Declarations → List Value → Result Step Refusal → Type 0
+StepTells service past result = IfOk result (λ step. AreTold service past step.sends)
+
+-- each message that a part of a call sends does so, where nothing was sent before
+abbrev pub TellsAfter : {A E : Type 0} → Declarations → List Value → (before after : Draft) → Result A E → Type 0
+TellsAfter service past before after result = before.sends.items ≡ [] → OnOk result (AreTold service past after.sends.items)
 
 -- a message that tells a state adds no record, or the one that holds its own bytes
 abbrev pub KeepsAsTold : Content → List (List ℕ) → List (List ℕ) → Type 0

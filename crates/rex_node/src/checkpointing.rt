@@ -1,6 +1,6 @@
 //! How a node writes down the state that it has replayed.
 
-ghost use Rattle.std.specs.Prelude.{◌≡◌, ◌<◌, ◌≤◌, ◌-◌, ◌^◌, ◌==◌, ◌∷◌, [], true, length, nat_lt, Ok, Some, None, IfOk, if◌then◌else◌};
+ghost use Rattle.std.specs.Prelude.{◌≡◌, ◌<◌, ◌≤◌, ◌-◌, ◌==◌, ◌∷◌, [], true, length, nat_lt, Ok, Some, None, IfOk, if◌then◌else◌};
 ghost use Rattle.rex_syntax.specs.declared.version.Version.TheVariants.{One, Two};
 ghost use Rattle.rex_syntax.specs.Versions.{has_old_form, has_version};
 ghost use Rattle.rex_durable.specs.Spelling.{HasSpelling, record_bytes};
@@ -8,13 +8,12 @@ ghost use Rattle.rex_state.specs.Sound.{IsSound};
 ghost use Rattle.rex_snapshot.specs.Allowed.{version_in};
 ghost use Rattle.rex_snapshot.specs.Reading.{state_in};
 ghost use Rattle.rex_snapshot.specs.Spelling.{IsLimited};
-ghost use Rattle.rex_cluster.specs.Calls as calls;
-ghost use Rattle.rex_cluster.specs.Values.{service_of};
 ghost use Rattle.rex_node.specs.declared.refusal.Refusal.TheVariants as why;
-ghost use Rattle.rex_node.specs.Calls.{Does, EndsDown, IsSpared, LeavesAll, Refuses, refusal_of_checkpoint};
+ghost use Rattle.rex_node.specs.Calls.{checkpoint_call, Refuses, refusal_of_checkpoint};
 ghost use Rattle.rex_node.specs.Checkpointing.{IsCheckpoint, SavesOr, rebased};
 ghost use Rattle.rex_cluster.specs.Records.{is_old};
-ghost use Rattle.rex_node.specs.Parts.{IsNode, StaysNode, here_of, whole};
+ghost use Rattle.rex_node.specs.Parts.{CanFail, IsNode, here_of, whole};
+ghost use Rattle.rex_node.specs.Performing.{PerformsAtOnce};
 
 use crate::node::Node;
 use crate::refusal::Refusal;
@@ -127,7 +126,7 @@ impl<K: Keeper> Node<K> {
     // Appends the record of the state that the node has replayed, in a version. Where the keeper fails the node is down, and its base is
     // that of the records that the keeper has then.
     fn save<P: Past>(&mut self, version: Version, rec: &Rec, state: State) -> Result<(), KeepFault>
-        requires count { K.faults self.old.keeper < 2 ^ 64 - 1 }
+        requires count { CanFail K.faults self.old }
         requires spelling { HasSpelling rec.now }
         ensures { SavesOr K.records K.faults K.append_gives version (whole P.past self.old) (whole P.past self.new) state (record_bytes rec.now) result }
     {
@@ -150,14 +149,9 @@ impl<K: Keeper> Node<K> {
     /// any more. No event may be live.
     pub fn checkpoint<P: Past>(&mut self, svc: &Checked) -> Result<Step, Refusal>
         requires node { IsNode K.records svc.now P.past self.old }
-        requires count { K.faults self.old.keeper < 2 ^ 64 - 1 }
-        ensures refused { Refuses (refusal_of_checkpoint (here_of K.records svc.now P.past self.old)) result }
-        ensures told { IfOk result (Does K.records K.append_gives K.faults svc.now P.past
-            (calls.checkpoint Two (service_of svc.now self.old.seed) self.old.id) self.old self.new) }
-        ensures down { IfOk result (EndsDown self.old.id (K.faults self.old.keeper) (K.faults self.new.keeper) self.new.up) }
-        ensures left { LeavesAll K.records K.append_gives K.faults result self.old self.new }
-        ensures same { IsSpared result self.old self.new }
-        ensures kept { StaysNode K.records svc.now P.past self.old self.new }
+        requires count { CanFail K.faults self.old }
+        ensures { PerformsAtOnce K.records K.append_gives K.faults svc.now P.past (checkpoint_call Two svc.now self.old)
+            (Refuses (refusal_of_checkpoint (here_of K.records svc.now P.past self.old))) self.old self.new result }
     {
         self.checkpoint_in::<P>(svc, Version::Two)
     }
@@ -166,14 +160,9 @@ impl<K: Keeper> Node<K> {
     pub fn checkpoint_old<P: Past>(&mut self, svc: &Checked) -> Result<Step, Refusal>
         requires old { has_old_form svc.now ≡ true }
         requires node { IsNode K.records svc.now P.past self.old }
-        requires count { K.faults self.old.keeper < 2 ^ 64 - 1 }
-        ensures refused { Refuses (refusal_of_checkpoint (here_of K.records svc.now P.past self.old)) result }
-        ensures told { IfOk result (Does K.records K.append_gives K.faults svc.now P.past
-            (calls.checkpoint One (service_of svc.now self.old.seed) self.old.id) self.old self.new) }
-        ensures down { IfOk result (EndsDown self.old.id (K.faults self.old.keeper) (K.faults self.new.keeper) self.new.up) }
-        ensures left { LeavesAll K.records K.append_gives K.faults result self.old self.new }
-        ensures same { IsSpared result self.old self.new }
-        ensures kept { StaysNode K.records svc.now P.past self.old self.new }
+        requires count { CanFail K.faults self.old }
+        ensures { PerformsAtOnce K.records K.append_gives K.faults svc.now P.past (checkpoint_call One svc.now self.old)
+            (Refuses (refusal_of_checkpoint (here_of K.records svc.now P.past self.old))) self.old self.new result }
     {
         self.checkpoint_in::<P>(svc, Version::One)
     }
@@ -186,14 +175,9 @@ impl<K: Keeper> Node<K> {
     ) -> Result<Step, Refusal>
         requires has { has_version svc.now version ≡ true }
         requires node { IsNode K.records svc.now P.past self.old }
-        requires count { K.faults self.old.keeper < 2 ^ 64 - 1 }
-        ensures refused { Refuses (refusal_of_checkpoint (here_of K.records svc.now P.past self.old)) result }
-        ensures told { IfOk result (Does K.records K.append_gives K.faults svc.now P.past
-            (calls.checkpoint version (service_of svc.now self.old.seed) self.old.id) self.old self.new) }
-        ensures down { IfOk result (EndsDown self.old.id (K.faults self.old.keeper) (K.faults self.new.keeper) self.new.up) }
-        ensures left { LeavesAll K.records K.append_gives K.faults result self.old self.new }
-        ensures same { IsSpared result self.old self.new }
-        ensures kept { StaysNode K.records svc.now P.past self.old self.new }
+        requires count { CanFail K.faults self.old }
+        ensures { PerformsAtOnce K.records K.append_gives K.faults svc.now P.past (checkpoint_call version svc.now self.old)
+            (Refuses (refusal_of_checkpoint (here_of K.records svc.now P.past self.old))) self.old self.new result }
     {
         let _service = svc.declarations();
         if let Some(refusal) = self.checkpoint_refusal::<P>(svc) {

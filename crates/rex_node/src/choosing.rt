@@ -1,7 +1,7 @@
 //! What a node is told of chosen values and of greater promises, and what it tells of chosen values.
 
-ghost use Rattle.std.specs.Prelude.{◌≡◌, ◌<◌, ◌≤◌, ◌+◌, ◌-◌, ◌++◌, ◌∷◌, ◌^◌, [], map, take, slice_index_or, suc, length, true, option_map, IfOk};
-ghost use Rattle.std.specs.Prelude.{OnOk, OnErr, is_some};
+ghost use Rattle.std.specs.Prelude.{◌≡◌, ◌<◌, ◌≤◌, ◌+◌, ◌-◌, ◌++◌, ◌∷◌, [], map, take, slice_index_or, suc, length, true, option_map};
+ghost use Rattle.std.specs.Prelude.{OnOk, OnErr};
 ghost use Rattle.rex_ballot.specs.Ballot.{IsInstance};
 ghost use Rattle.rex_ballot.specs.Proposals.{IsValue};
 ghost use Rattle.rex_paxos.specs.Proposer.{ProposerValue};
@@ -11,11 +11,9 @@ ghost use Rattle.rex_report.specs.declared.effect.Effect.TheVariants as effect;
 ghost use Rattle.rex_cluster.specs.Calls as calls;
 ghost use Rattle.rex_cluster.specs.Calls.{followed};
 ghost use Rattle.rex_transfer.specs.Window.{SpellsDelta};
-ghost use Rattle.rex_node.specs.Parts.{IsNode, IsSame, here_of, knows, leaving, role_of, whole};
-ghost use Rattle.rex_node.specs.Telling.{AreTold};
-ghost use Rattle.rex_cluster.specs.Invariant.{Begins};
-ghost use Rattle.rex_cluster.specs.Records as records;
-ghost use Rattle.rex_node.specs.Going.{Ends, IsStuck, RunsOn, Sends, Tells, answering, so_far};
+ghost use Rattle.rex_node.specs.Parts.{StaysPut, role_in, MayCall, IsPastOf, knows, leaving, whole};
+ghost use Rattle.rex_node.specs.Going.{Goes, RunsOn, Sends, Tells, answering, so_far};
+ghost use Rattle.rex_node.specs.Telling.{TellsAfter};
 
 use crate::going::Going;
 use crate::node::Node;
@@ -40,17 +38,12 @@ impl<K: Keeper> Node<K> {
         instance: u32,
         value: &[u8],
     ) -> Result<Going, AllocError>
-        requires node { IsNode K.records svc.now P.past self.old }
-        requires up { self.old.up ≡ true }
+        requires may { MayCall K.records K.faults svc.now P.past self.old }
         requires instance { IsInstance instance }
         requires value { IsValue value.now }
         requires runs { RunsOn svc.now (calls.on_chosen self.old.id instance value.now) (so_far K.records svc.now P.past self.old draft.old) }
-        requires count { K.faults self.old.keeper < 2 ^ 64 - 1 }
-        ensures ends { IfOk result (Ends K.records K.append_gives K.faults svc.now P.past (calls.on_chosen self.old.id instance value.now)
-            (whole P.past self.old) (whole P.past self.new) draft.old draft.new) }
-        ensures stuck { OnErr result (IsStuck K.records K.append_gives K.faults svc.now P.past (calls.on_chosen self.old.id instance value.now)
-            (whole P.past self.old) (whole P.past self.new) draft.old) }
-        ensures same { IsSame (whole P.past self.old) (whole P.past self.new) }
+        ensures { Goes K.records K.append_gives K.faults svc.now P.past (calls.on_chosen self.old.id instance value.now) self.old self.new draft.old
+            draft.new result }
     {
         let _service = svc.declarations();
         let next = self.count::<P>() + 1;
@@ -72,18 +65,13 @@ impl<K: Keeper> Node<K> {
         instance: u32,
         value: &[u8],
     ) -> Result<Going, AllocError>
-        requires node { IsNode K.records svc.now P.past self.old }
-        requires up { self.old.up ≡ true }
+        requires may { MayCall K.records K.faults svc.now P.past self.old }
         requires instance { IsInstance instance }
         requires next { instance ≡ suc (length (knows P.past self.old)) }
         requires value { IsValue value.now }
         requires runs { RunsOn svc.now (calls.on_chosen self.old.id instance value.now) (so_far K.records svc.now P.past self.old draft.old) }
-        requires count { K.faults self.old.keeper < 2 ^ 64 - 1 }
-        ensures ends { IfOk result (Ends K.records K.append_gives K.faults svc.now P.past (calls.on_chosen self.old.id instance value.now)
-            (whole P.past self.old) (whole P.past self.new) draft.old draft.new) }
-        ensures stuck { OnErr result (IsStuck K.records K.append_gives K.faults svc.now P.past (calls.on_chosen self.old.id instance value.now)
-            (whole P.past self.old) (whole P.past self.new) draft.old) }
-        ensures same { IsSame (whole P.past self.old) (whole P.past self.new) }
+        ensures { Goes K.records K.append_gives K.faults svc.now P.past (calls.on_chosen self.old.id instance value.now) self.old self.new draft.old
+            draft.new result }
     {
         let _service = svc.declarations();
         let rec = Rec::Known {
@@ -110,11 +98,8 @@ impl<K: Keeper> Node<K> {
         requires delta { SpellsDelta value.now }
         ensures chosen { OnOk result (whole P.past self.new
             ≡ record (leaving (whole P.past self.old)) { known = knows P.past self.old ++ value.now ∷ [] }) }
-        ensures told { OnOk result (Tells draft.old draft.new (effect.Known self.old.id instance ∷ followed self.old.id
-            (role_of self.old.acceptor self.old.proposer (is_some self.old.acting)))) }
-        ensures keeper { self.new.keeper ≡ self.old.keeper }
-        ensures base { self.new.base ≡ self.old.base }
-        ensures same { IsSame (whole P.past self.old) (whole P.past self.new) }
+        ensures told { OnOk result (Tells draft.old draft.new (effect.Known self.old.id instance ∷ followed self.old.id (role_in self.old))) }
+        ensures stays { StaysPut self.old self.new }
     {
         let node = self.id;
         self.known.push(value, true)?;
@@ -129,13 +114,9 @@ impl<K: Keeper> Node<K> {
         draft: &mut Draft,
         promised: u64,
     ) -> Result<Going, AllocError>
-        requires node { IsNode K.records svc.now P.past self.old }
-        requires up { self.old.up ≡ true }
-        ensures ends { IfOk result (Ends K.records K.append_gives K.faults svc.now P.past (λ d. calls.on_nack self.old.id promised d d.node.role)
-            (whole P.past self.old) (whole P.past self.new) draft.old draft.new) }
-        ensures stuck { OnErr result (IsStuck K.records K.append_gives K.faults svc.now P.past (λ d. calls.on_nack self.old.id promised d d.node.role)
-            (whole P.past self.old) (whole P.past self.new) draft.old) }
-        ensures same { IsSame (whole P.past self.old) (whole P.past self.new) }
+        requires may { MayCall K.records K.faults svc.now P.past self.old }
+        ensures { Goes K.records K.append_gives K.faults svc.now P.past (λ d. calls.on_nack self.old.id promised d d.node.role) self.old self.new
+            draft.old draft.new result }
     {
         let _service = svc.declarations();
         match self.own_ballot() {
@@ -165,15 +146,11 @@ impl<K: Keeper> Node<K> {
         from: u8,
         first: u32,
     ) -> Result<Going, AllocError>
-        requires node { IsNode K.records svc.now P.past self.old }
-        requires up { self.old.up ≡ true }
-        requires past { Begins (records.known (here_of K.records svc.now P.past self.old).log) P.past }
-        ensures ends { IfOk result (Ends K.records K.append_gives K.faults svc.now P.past (calls.on_ask self.old.id from first) (whole P.past self.old)
-            (whole P.past self.new) draft.old draft.new) }
-        ensures stuck { OnErr result (IsStuck K.records K.append_gives K.faults svc.now P.past (calls.on_ask self.old.id from first)
-            (whole P.past self.old) (whole P.past self.new) draft.old) }
-        ensures tells { draft.old.sends.items ≡ [] → OnOk result (AreTold svc.now P.past draft.new.sends.items) }
-        ensures same { IsSame (whole P.past self.old) (whole P.past self.new) }
+        requires may { MayCall K.records K.faults svc.now P.past self.old }
+        requires past { IsPastOf K.records svc.now P.past self.old }
+        ensures goes { Goes K.records K.append_gives K.faults svc.now P.past (calls.on_ask self.old.id from first) self.old self.new draft.old
+            draft.new result }
+        ensures tells { TellsAfter svc.now P.past draft.old draft.new result }
     {
         let _service = svc.declarations();
         if first <= self.known.offset() {
@@ -202,7 +179,7 @@ impl<K: Keeper> Node<K> {
         ensures effects { OnOk result (draft.new.effects.items ≡ draft.old.effects.items) }
         ensures sends { OnOk result (map (message_in P.past) draft.new.sends.items ≡ map (message_in P.past) draft.old.sends.items ++ take TOLD_VALUES
             (calls.tell self.now.id to first 1 (knows P.past self.now))) }
-        ensures tells { draft.old.sends.items ≡ [] → OnOk result (AreTold svc.now P.past draft.new.sends.items) }
+        ensures tells { TellsAfter svc.now P.past draft.old draft.new result }
     {
         let _service = svc.declarations();
         let skipped = first.saturating_sub(1);
@@ -245,7 +222,7 @@ impl<K: Keeper> Node<K> {
 
     // Tells that the node leaves its role, if it leads or asks to.
     fn tell_followed(&self, draft: &mut Draft) -> Result<(), AllocError>
-        ensures { OnOk result (Tells draft.old draft.new (followed self.now.id (role_of self.now.acceptor self.now.proposer (is_some self.now.acting)))) }
+        ensures { OnOk result (Tells draft.old draft.new (followed self.now.id (role_in self.now))) }
     {
         if self.proposer.is_none() {
             return Ok(());
@@ -256,7 +233,7 @@ impl<K: Keeper> Node<K> {
 
     /// The node is a follower from here on, and tells so where it wasn't.
     pub(crate) fn leave<P: Past>(&mut self, draft: &mut Draft) -> Result<(), AllocError>
-        ensures told { OnOk result (Tells draft.old draft.new (followed self.old.id (role_of self.old.acceptor self.old.proposer (is_some self.old.acting)))) }
+        ensures told { OnOk result (Tells draft.old draft.new (followed self.old.id (role_in self.old))) }
         ensures ok { OnOk result (whole P.past self.new ≡ leaving (whole P.past self.old)) }
         ensures err { OnErr result (whole P.past self.new ≡ (whole P.past self.old)) }
     {

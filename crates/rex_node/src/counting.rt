@@ -1,6 +1,6 @@
 //! The answers that a node that leads, or asks to, counts.
 
-ghost use Rattle.std.specs.Prelude.{◌≡◌, ◌<◌, ◌+◌, ◌*◌, ◌-◌, ◌^◌, map, true, option_map, IfSome, IfOk, OnOk, OnErr};
+ghost use Rattle.std.specs.Prelude.{◌≡◌, ◌<◌, ◌+◌, ◌*◌, ◌-◌, option_map, IfSome, IfOk, OnOk, OnErr};
 ghost use Rattle.std.specs.List.{All};
 ghost use Rattle.rex_ballot.specs.Proposals.{IsProposal, proposal_for};
 ghost use Rattle.rex_ballot.specs.declared.proposal.Proposal.{Proposal as Kept};
@@ -8,12 +8,10 @@ ghost use Rattle.rex_paxos.specs.declared.answers.Vote.TheVariants as vote;
 ghost use Rattle.rex_paxos.specs.Counting.{IsOneOf};
 ghost use Rattle.rex_paxos.specs.Proposer.{ProposerValue};
 ghost use Rattle.rex_cluster.specs.Quorum.{IsNode as IsNodeOf};
-ghost use Rattle.rex_cluster.specs.Calls as calls;
-ghost use Rattle.rex_cluster.specs.Values.{service_of};
-ghost use Rattle.rex_log.specs.Log.{proposal_in};
-ghost use Rattle.rex_node.specs.Parts.{IsNode, IsSame, whole};
+ghost use Rattle.rex_node.specs.Parts.{MayCall, whole};
 ghost use Rattle.rex_node.specs.Electing.{acceptance_vote_on, accepting_from, counting, reports_of, told_of, uncounting, vote_on};
-ghost use Rattle.rex_node.specs.Going.{Ends, IsStuck, RunsOn, so_far};
+ghost use Rattle.rex_node.specs.Going.{Goes, RunsOn, so_far};
+ghost use Rattle.rex_node.specs.Calls.{vote_call, promise_call};
 
 use crate::going::Going;
 use crate::node::Node;
@@ -39,20 +37,12 @@ impl<K: Keeper> Node<K> {
         ballot: u64,
         reported: &[Proposal],
     ) -> Result<Going, AllocError>
-        requires node { IsNode K.records svc.now P.past self.old }
-        requires up { self.old.up ≡ true }
+        requires may { MayCall K.records K.faults svc.now P.past self.old }
         requires from { IsNodeOf self.old.nodes from }
         requires reported { All IsProposal reported.now }
-        requires runs { RunsOn svc.now (λ d. calls.on_promise self.old.nodes (service_of svc.now self.old.seed) self.old.id from ballot
-            (map proposal_in reported.now) d d.node.role) (so_far K.records svc.now P.past self.old draft.old) }
-        requires count { K.faults self.old.keeper < 2 ^ 64 - 1 }
-        ensures ends { IfOk result (Ends K.records K.append_gives K.faults svc.now P.past
-            (λ d. calls.on_promise self.old.nodes (service_of svc.now self.old.seed) self.old.id from ballot (map proposal_in reported.now) d d.node.role)
-            (whole P.past self.old) (whole P.past self.new) draft.old draft.new) }
-        ensures stuck { OnErr result (IsStuck K.records K.append_gives K.faults svc.now P.past
-            (λ d. calls.on_promise self.old.nodes (service_of svc.now self.old.seed) self.old.id from ballot (map proposal_in reported.now) d d.node.role)
-            (whole P.past self.old) (whole P.past self.new) draft.old) }
-        ensures same { IsSame (whole P.past self.old) (whole P.past self.new) }
+        requires runs { RunsOn svc.now (promise_call svc.now self.old from ballot reported.now) (so_far K.records svc.now P.past self.old draft.old) }
+        ensures { Goes K.records K.append_gives K.faults svc.now P.past (promise_call svc.now self.old from ballot reported.now) self.old self.new
+            draft.old draft.new result }
     {
         let _service = svc.declarations();
         match self.count_promise::<P>(from, ballot, reported)? {
@@ -132,19 +122,11 @@ impl<K: Keeper> Node<K> {
         ballot: u64,
         instance: u32,
     ) -> Result<Going, AllocError>
-        requires node { IsNode K.records svc.now P.past self.old }
-        requires up { self.old.up ≡ true }
+        requires may { MayCall K.records K.faults svc.now P.past self.old }
         requires from { IsNodeOf self.old.nodes from }
-        requires runs { RunsOn svc.now (λ d. calls.on_voted self.old.nodes
-            (service_of svc.now self.old.seed) self.old.id from ballot instance d d.node.role) (so_far K.records svc.now P.past self.old draft.old) }
-        requires count { K.faults self.old.keeper < 2 ^ 64 - 1 }
-        ensures ends { IfOk result (Ends K.records K.append_gives K.faults svc.now P.past
-            (λ d. calls.on_voted self.old.nodes (service_of svc.now self.old.seed) self.old.id from ballot instance d d.node.role) (whole P.past self.old)
-            (whole P.past self.new) draft.old draft.new) }
-        ensures stuck { OnErr result (IsStuck K.records K.append_gives K.faults svc.now P.past
-            (λ d. calls.on_voted self.old.nodes (service_of svc.now self.old.seed) self.old.id from ballot instance d d.node.role) (whole P.past self.old)
-            (whole P.past self.new) draft.old) }
-        ensures same { IsSame (whole P.past self.old) (whole P.past self.new) }
+        requires runs { RunsOn svc.now (vote_call svc.now self.old from ballot instance) (so_far K.records svc.now P.past self.old draft.old) }
+        ensures { Goes K.records K.append_gives K.faults svc.now P.past (vote_call svc.now self.old from ballot instance) self.old self.new draft.old
+            draft.new result }
     {
         match self.acceptance_vote(from, ballot, instance) {
             Vote::Ignored { why } => {
@@ -205,20 +187,12 @@ impl<K: Keeper> Node<K> {
         ballot: u64,
         instance: u32,
     ) -> Result<Going, AllocError>
-        requires node { IsNode K.records svc.now P.past self.old }
-        requires up { self.old.up ≡ true }
+        requires may { MayCall K.records K.faults svc.now P.past self.old }
         requires from { IsNodeOf self.old.nodes from }
         requires vote { acceptance_vote_on self.old.proposer ballot instance from ≡ vote.Quorum }
-        requires runs { RunsOn svc.now (λ d. calls.on_voted self.old.nodes
-            (service_of svc.now self.old.seed) self.old.id from ballot instance d d.node.role) (so_far K.records svc.now P.past self.old draft.old) }
-        requires count { K.faults self.old.keeper < 2 ^ 64 - 1 }
-        ensures ends { IfOk result (Ends K.records K.append_gives K.faults svc.now P.past
-            (λ d. calls.on_voted self.old.nodes (service_of svc.now self.old.seed) self.old.id from ballot instance d d.node.role) (whole P.past self.old)
-            (whole P.past self.new) draft.old draft.new) }
-        ensures stuck { OnErr result (IsStuck K.records K.append_gives K.faults svc.now P.past
-            (λ d. calls.on_voted self.old.nodes (service_of svc.now self.old.seed) self.old.id from ballot instance d d.node.role) (whole P.past self.old)
-            (whole P.past self.new) draft.old) }
-        ensures same { IsSame (whole P.past self.old) (whole P.past self.new) }
+        requires runs { RunsOn svc.now (vote_call svc.now self.old from ballot instance) (so_far K.records svc.now P.past self.old draft.old) }
+        ensures { Goes K.records K.append_gives K.faults svc.now P.past (vote_call svc.now self.old from ballot instance) self.old self.new draft.old
+            draft.new result }
     {
         let _service = svc.declarations();
         let Some(value) = self.own_value(instance)? else {

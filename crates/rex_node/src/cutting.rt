@@ -1,21 +1,18 @@
 //! How a node proposes what it executed.
 
-ghost use Rattle.std.specs.Prelude.{◌≡◌, ◌<◌, ◌-◌, ◌++◌, ◌∷◌, ◌^◌, [], true, length, Some, None, is_some, option_map, IfSome, IsSome, IfOk, OnErr};
+ghost use Rattle.std.specs.Prelude.{◌≡◌, ◌<◌, ◌-◌, ◌++◌, ◌∷◌, [], true, length, Some, None, option_map, IfSome, IsSome, IfOk};
 ghost use Rattle.rex_ballot.specs.Proposals.{IsValue};
 ghost use Rattle.rex_cluster.specs.Values.{values_fit};
 ghost use Rattle.rex_node.specs.Leading.{IsOwnCut};
 ghost use Rattle.std.specs.Option.{option_copied};
-ghost use Rattle.rex_event.specs.Cuts.{below};
-ghost use Rattle.rex_cut.specs.Greatest.{greatest_cut};
-ghost use Rattle.rex_cluster.specs.Lanes as lanes;
 ghost use Rattle.rex_record.specs.Kept.{IsRecorder};
-ghost use Rattle.rex_node.specs.Cutting.{CanMakePiece, CanPropose, HasPiece, IsIdle, MakesPieceOf, ProposesCut, ProposesCutShort, ProposesPiece};
-ghost use Rattle.rex_node.specs.Cutting.{ProposesPieceShort, cut_before, has_open, with_cut};
+ghost use Rattle.rex_node.specs.Cutting.{ProposesPieceOr, ProposesCutOr, CanMakePiece, CanPropose, HasPiece, IsIdle, MakesPieceOf};
+ghost use Rattle.rex_node.specs.Cutting.{cut_before, has_open, with_cut};
 ghost use Rattle.rex_log.specs.Log.{proposal_in};
-ghost use Rattle.rex_node.specs.Telling.{AreTold};
-ghost use Rattle.rex_node.specs.Parts.{ActingValue, here_of, open_of, role_of, IsNode, IsSame, StaysNode, knows, whole};
-ghost use Rattle.rex_node.specs.Calls.{AreLimits, CanBeCut, Does, EndsDown, IsSpared, Leaves, RefusesThen, counts_for, if_active, if_up};
-ghost use Rattle.rex_node.specs.Calls.{refusal_of_lead, refusal_of_none, refusal_of_open, refusal_of_cut};
+ghost use Rattle.rex_node.specs.Parts.{CanFail, role_in, ActingValue, here_of, open_of, IsNode, knows, whole};
+ghost use Rattle.rex_node.specs.Calls.{refusal_of_piece, cut_call, AreLimits, CanBeCut, RefusesThen, counts_for, if_active, if_up};
+ghost use Rattle.rex_node.specs.Calls.{refusal_of_lead, refusal_of_open, refusal_of_cut};
+ghost use Rattle.rex_node.specs.Performing.{Performs};
 
 use crate::going::Going;
 use crate::node::Node;
@@ -35,8 +32,7 @@ use std::mem::replace;
 impl<K: Keeper> Node<K> {
     // Why the node doesn't cut, before it makes the cut.
     fn cut_refusal<P: Past>(&self) -> Option<Refusal>
-        ensures why { result ≡ if_up self.now.up (if_active (role_of self.now.acceptor self.now.proposer (is_some self.now.acting))
-            (refusal_of_lead (role_of self.now.acceptor self.now.proposer (is_some self.now.acting)) (length (knows P.past self.now)))) }
+        ensures why { result ≡ if_up self.now.up (if_active (role_in self.now) (refusal_of_lead (role_in self.now) (length (knows P.past self.now)))) }
         ensures acts { result ≡ None → IsSome self.now.acting }
     {
         if let Some(refusal) = self.active_refusal() {
@@ -69,8 +65,8 @@ impl<K: Keeper> Node<K> {
         requires spelling { CanBeCut (here_of K.records svc.now P.past self.now)
             (counts_for svc.now (here_of K.records svc.now P.past self.now) (option_copied limits)) }
         ensures refused { RefusesThen (refusal_of_cut (here_of K.records svc.now P.past self.now) (length (knows P.past self.now)))
-            (refusal_of_none (below (greatest_cut (counts_for svc.now (here_of K.records svc.now P.past self.now) (option_copied limits.entry))
-            (here_of K.records svc.now P.past self.now).work.live) (here_of K.records svc.now P.past self.now).work.live)) result }
+            (refusal_of_piece (here_of K.records svc.now P.past self.now)
+            (counts_for svc.now (here_of K.records svc.now P.past self.now) (option_copied limits.entry))) result }
         ensures can { IfOk result (CanPropose (whole P.past self.now) (option_copied limits.entry)) }
     {
         match self.cut_refusal::<P>() {
@@ -110,18 +106,14 @@ impl<K: Keeper> Node<K> {
     ) -> Result<Going, AllocError>
         requires node { IsNode K.records svc.now P.past self.old }
         requires up { self.old.up ≡ true }
+        requires count { CanFail K.faults self.old }
         requires active { IsSome self.old.acting }
         requires idle { IsIdle self.old.acceptor self.old.proposer }
         requires left { length (knows P.past self.old) < INSTANCES }
         requires value { IsValue value.now }
         requires cut { IsOwnCut svc.now (whole P.past self.old) value.now }
         requires fits { values_fit svc.now (knows P.past self.old ++ value.now ∷ []) ≡ true }
-        requires count { K.faults self.old.keeper < 2 ^ 64 - 1 }
-        ensures ends { IfOk result (ProposesCut K.records K.append_gives K.faults svc.now P.past events value.now (whole P.past self.old)
-            (whole P.past self.new) draft.old draft.new) }
-        ensures stuck { OnErr result (ProposesCutShort K.records K.append_gives K.faults svc.now P.past events value.now (whole P.past self.old)
-            (whole P.past self.new) draft.old) }
-        ensures same { IsSame (whole P.past self.old) (whole P.past self.new) }
+        ensures { ProposesCutOr K.records K.append_gives K.faults svc.now P.past events value.now self.old self.new draft.old draft.new result }
     {
         let node = self.id;
         let instance = self.count::<P>() + 1;
@@ -150,12 +142,8 @@ impl<K: Keeper> Node<K> {
     ) -> Result<Going, AllocError>
         requires node { IsNode K.records svc.now P.past self.old }
         requires can { HasPiece svc.now (whole P.past self.old) piece }
-        requires count { K.faults self.old.keeper < 2 ^ 64 - 1 }
-        ensures ends { IfOk result (ProposesPiece K.records K.append_gives K.faults svc.now P.past piece.cut.counts (whole P.past self.old)
-            (whole P.past self.new) draft.old draft.new) }
-        ensures stuck { OnErr result (ProposesPieceShort K.records K.append_gives K.faults svc.now P.past piece.cut.counts (whole P.past self.old)
-            (whole P.past self.new) draft.old) }
-        ensures same { IsSame (whole P.past self.old) (whole P.past self.new) }
+        requires count { CanFail K.faults self.old }
+        ensures { ProposesPieceOr K.records K.append_gives K.faults svc.now P.past piece.cut.counts self.old self.new draft.old draft.new result }
     {
         let _service = svc.declarations();
         let Piece { cut, events, value } = piece;
@@ -173,20 +161,12 @@ impl<K: Keeper> Node<K> {
         requires limits { AreLimits svc.now (option_copied limits) }
         requires spelling { CanBeCut (here_of K.records svc.now P.past self.old)
             (counts_for svc.now (here_of K.records svc.now P.past self.old) (option_copied limits)) }
-        requires count { K.faults self.old.keeper < 2 ^ 64 - 1 }
-        ensures refused { RefusesThen (refusal_of_cut (here_of K.records svc.now P.past self.old) (length (knows P.past self.old)))
-            (refusal_of_none (below (greatest_cut (counts_for svc.now (here_of K.records svc.now P.past self.old) (option_copied limits.entry))
-            (here_of K.records svc.now P.past self.old).work.live) (here_of K.records svc.now P.past self.old).work.live)) result }
-        ensures told { IfOk result (Does K.records K.append_gives K.faults svc.now P.past
-            (lanes.cut svc.now self.old.seed self.old.nodes self.old.id
-            (counts_for svc.now (here_of K.records svc.now P.past self.old) (option_copied limits.entry))) self.old self.new) }
-        ensures tells { IfOk result (λ step. AreTold svc.now P.past step.sends) }
-        ensures down { IfOk result (EndsDown self.old.id (K.faults self.old.keeper) (K.faults self.new.keeper) self.new.up) }
-        ensures left { Leaves K.records K.append_gives K.faults svc.now P.past
-            (lanes.cut svc.now self.old.seed self.old.nodes self.old.id
-            (counts_for svc.now (here_of K.records svc.now P.past self.old) (option_copied limits.entry))) result self.old self.new }
-        ensures same { IsSpared result self.old self.new }
-        ensures kept { StaysNode K.records svc.now P.past self.old self.new }
+        requires count { CanFail K.faults self.old }
+        ensures { Performs K.records K.append_gives K.faults svc.now P.past
+            (cut_call svc.now self.old (counts_for svc.now (here_of K.records svc.now P.past self.old) (option_copied limits.entry)))
+            (RefusesThen (refusal_of_cut (here_of K.records svc.now P.past self.old) (length (knows P.past self.old)))
+            (refusal_of_piece (here_of K.records svc.now P.past self.old)
+            (counts_for svc.now (here_of K.records svc.now P.past self.old) (option_copied limits.entry)))) self.old self.new result }
     {
         let _service = svc.declarations();
         let piece = self.piece::<P>(svc, limits)?;

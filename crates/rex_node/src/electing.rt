@@ -1,6 +1,6 @@
 //! How a node asks to lead.
 
-ghost use Rattle.std.specs.Prelude.{◌≡◌, ◌<◌, ◌≤◌, ◌+◌, ◌*◌, ◌-◌, ◌++◌, ◌∷◌, ◌^◌, [], length, map, true, Some, IfOk, OnOk, OnErr};
+ghost use Rattle.std.specs.Prelude.{◌≡◌, ◌<◌, ◌≤◌, ◌+◌, ◌*◌, ◌-◌, ◌++◌, ◌∷◌, [], length, map, Some, IfOk, OnOk};
 ghost use Rattle.rex_ballot.specs.Ballot.{IsLeastAbove, ballot_left};
 ghost use Rattle.rex_paxos.specs.Counting.{IsOneOf};
 ghost use Rattle.rex_paxos.specs.Proposer.{IsOwnBallot};
@@ -8,13 +8,12 @@ ghost use Rattle.rex_msg.specs.declared.message.Content.TheVariants as sent;
 ghost use Rattle.rex_report.specs.declared.effect.Effect.TheVariants as effect;
 ghost use Rattle.rex_cluster.specs.Calls as calls;
 ghost use Rattle.rex_cluster.specs.Calls.{begin};
-ghost use Rattle.rex_cluster.specs.Values.{service_of};
-ghost use Rattle.rex_node.specs.Telling.{AreTold};
-ghost use Rattle.rex_node.specs.Parts.{here_of, IsNode, IsSame, StaysNode, whole, knows};
+ghost use Rattle.rex_node.specs.Parts.{CanFail, StaysPut, MayCall, here_of, IsNode, whole, knows};
 ghost use Rattle.rex_node.specs.Electing.{candidate_of, standing};
 ghost use Rattle.rex_log.specs.Messages.{content_in, message_in};
-ghost use Rattle.rex_node.specs.Going.{Ends, IsStuck, RunsOn, so_far};
-ghost use Rattle.rex_node.specs.Calls.{Does, EndsDown, IsSpared, Leaves, Refuses, refusal_of_elect};
+ghost use Rattle.rex_node.specs.Going.{Goes, RunsOn, so_far};
+ghost use Rattle.rex_node.specs.Calls.{elect_call, Refuses, refusal_of_elect};
+ghost use Rattle.rex_node.specs.Performing.{Performs};
 
 use crate::going::Going;
 use crate::node::Node;
@@ -40,18 +39,10 @@ impl<K: Keeper> Node<K> {
         replayer: &mut R,
     ) -> Result<Step, Refusal>
         requires node { IsNode K.records svc.now P.past self.old }
-        requires runs { RunsOn svc.now (calls.elect self.old.nodes (service_of svc.now self.old.seed) self.old.id)
-            (begin (here_of K.records svc.now P.past self.old)) }
-        requires count { K.faults self.old.keeper < 2 ^ 64 - 1 }
-        ensures refused { Refuses (refusal_of_elect self.old.id (here_of K.records svc.now P.past self.old)) result }
-        ensures told { IfOk result (Does K.records K.append_gives K.faults svc.now P.past
-            (calls.elect self.old.nodes (service_of svc.now self.old.seed) self.old.id) self.old self.new) }
-        ensures tells { IfOk result (λ step. AreTold svc.now P.past step.sends) }
-        ensures down { IfOk result (EndsDown self.old.id (K.faults self.old.keeper) (K.faults self.new.keeper) self.new.up) }
-        ensures left { Leaves K.records K.append_gives K.faults svc.now P.past
-            (calls.elect self.old.nodes (service_of svc.now self.old.seed) self.old.id) result self.old self.new }
-        ensures same { IsSpared result self.old self.new }
-        ensures kept { StaysNode K.records svc.now P.past self.old self.new }
+        requires runs { RunsOn svc.now (elect_call svc.now self.old) (begin (here_of K.records svc.now P.past self.old)) }
+        requires count { CanFail K.faults self.old }
+        ensures { Performs K.records K.append_gives K.faults svc.now P.past (elect_call svc.now self.old)
+            (Refuses (refusal_of_elect self.old.id (here_of K.records svc.now P.past self.old))) self.old self.new result }
     {
         let _service = svc.declarations();
         if let Some(refusal) = self.up_refusal() {
@@ -74,18 +65,11 @@ impl<K: Keeper> Node<K> {
         draft: &mut Draft,
         ballot: u64,
     ) -> Result<Going, AllocError>
-        requires node { IsNode K.records svc.now P.past self.old }
-        requires up { self.old.up ≡ true }
+        requires may { MayCall K.records K.faults svc.now P.past self.old }
         requires left { ballot_left self.old.id self.old.acceptor.promised ≡ Some ballot }
         requires least { IsLeastAbove self.old.id self.old.acceptor.promised ballot }
-        requires runs { RunsOn svc.now (calls.elect self.old.nodes (service_of svc.now self.old.seed) self.old.id)
-            (so_far K.records svc.now P.past self.old draft.old) }
-        requires count { K.faults self.old.keeper < 2 ^ 64 - 1 }
-        ensures ends { IfOk result (Ends K.records K.append_gives K.faults svc.now P.past
-            (calls.elect self.old.nodes (service_of svc.now self.old.seed) self.old.id) (whole P.past self.old) (whole P.past self.new) draft.old draft.new) }
-        ensures stuck { OnErr result (IsStuck K.records K.append_gives K.faults svc.now P.past
-            (calls.elect self.old.nodes (service_of svc.now self.old.seed) self.old.id) (whole P.past self.old) (whole P.past self.new) draft.old) }
-        ensures same { IsSame (whole P.past self.old) (whole P.past self.new) }
+        requires runs { RunsOn svc.now (elect_call svc.now self.old) (so_far K.records svc.now P.past self.old draft.old) }
+        ensures { Goes K.records K.append_gives K.faults svc.now P.past (elect_call svc.now self.old) self.old self.new draft.old draft.new result }
     {
         let _service = svc.declarations();
         let rec = Rec::Promised { ballot };
@@ -109,9 +93,7 @@ impl<K: Keeper> Node<K> {
         ensures sends { OnOk result (map (message_in P.past) draft.new.sends.items ≡ map
             (message_in P.past) draft.old.sends.items ++ calls.others self.old.nodes self.old.id
             (content_in P.past (sent.Prepare ballot (length (knows P.past self.old) + 1)))) }
-        ensures keeper { self.new.keeper ≡ self.old.keeper }
-        ensures base { self.new.base ≡ self.old.base }
-        ensures same { IsSame (whole P.past self.old) (whole P.past self.new) }
+        ensures stays { StaysPut self.old self.new }
     {
         let node = self.id;
         let first = self.count::<P>() + 1;

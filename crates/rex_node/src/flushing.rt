@@ -1,9 +1,10 @@
 //! How the keeper of a node keeps its records for good.
 
-ghost use Rattle.std.specs.Prelude.{◌≡◌, ◌<◌, ◌-◌, ◌^◌};
+ghost use Rattle.std.specs.Prelude.{◌≡◌, ◌<◌, ◌-◌};
 ghost use Rattle.rex_traits.specs.Causes.{HasCause};
 ghost use Rattle.rex_traits.specs.Keeping.{IsKeeperFault, StandsUnlessFailed};
 ghost use Rattle.rex_flush.specs.Flushing.{Flushes};
+ghost use Rattle.rex_node.specs.Parts.{CanFail};
 
 use crate::node::Node;
 use rex_flush::Flush;
@@ -12,7 +13,7 @@ use rex_traits::KeepFault;
 impl<K: Flush> Node<K> {
     /// Has the node's keeper keep all its records for good.
     pub fn flush(&mut self) -> Result<(), KeepFault>
-        requires count { K.faults self.old.keeper < 2 ^ 64 - 1 }
+        requires count { CanFail K.faults self.old }
         ensures only { self.new ≡ record self.old { keeper = self.new.keeper } }
         ensures records { K.records self.new.keeper ≡ K.records self.old.keeper }
         ensures kept { Flushes (K.kept self.old.keeper) (K.kept self.new.keeper) (K.records self.old.keeper) result }

@@ -1,24 +1,20 @@
 //! How a node that leads, or asks to, goes on.
 
-ghost use Rattle.std.specs.Prelude.{◌≡◌, ◌<◌, ◌≤◌, ◌+◌, ◌*◌, ◌-◌, ◌++◌, ◌∷◌, ◌^◌, [], length, map, unwrap_or, true, false, suc, is_some, option_map};
+ghost use Rattle.std.specs.Prelude.{◌≡◌, ◌<◌, ◌+◌, ◌-◌, ◌++◌, ◌∷◌, [], length, map, unwrap_or, true, false, is_some, option_map};
 ghost use Rattle.std.specs.Prelude.{None, Some, IfSome, IsSome, IfOk, OnOk, OnErr};
 ghost use Rattle.std.specs.Option.{option_copied};
-ghost use Rattle.rex_ballot.specs.Ballot.{IsInstance};
-ghost use Rattle.rex_ballot.specs.Proposals.{IsValue};
-ghost use Rattle.rex_ballot.specs.declared.proposal.Proposal.{Proposal as Kept};
 ghost use Rattle.rex_paxos.specs.Proposer.{ProposerValue, closed};
-ghost use Rattle.rex_paxos.specs.Reports.{best_for};
 ghost use Rattle.rex_cluster.specs.Calls as calls;
-ghost use Rattle.rex_cluster.specs.Values.{events_of, release_effect, replies_of, service_of, values_fit};
+ghost use Rattle.rex_cluster.specs.Values.{events_of, service_of, values_fit};
 ghost use Rattle.rex_transfer.specs.Window.{SpellsDelta};
-ghost use Rattle.rex_node.specs.Parts.{IsKept, IsSame, knows, whole};
+ghost use Rattle.rex_node.specs.Parts.{StaysPut, IsKept, IsSame, knows, whole};
 ghost use Rattle.rex_log.specs.Messages.{content_in, message_in};
-ghost use Rattle.rex_node.specs.Going.{Ends, IsStuck};
 ghost use Rattle.rex_msg.specs.declared.message.Content.TheVariants as sent;
 ghost use Rattle.rex_report.specs.declared.effect.Effect.TheVariants as effect;
 ghost use Rattle.rex_node.specs.Leading as spec;
-ghost use Rattle.rex_node.specs.Leading.{CanSettle, FromLead, MayPropose, releases_in, Opens, OpensShort, HasOpened, Learns, LearnsShort, HasLearned};
-ghost use Rattle.rex_node.specs.Leading.{IsActive, IsLonger, MaySettle, GoesRound, opened, knowing, goes_on};
+ghost use Rattle.rex_node.specs.Leading.{GoesRoundOr, LearnsOr, OpensOr, CanSettle, FromLead, MayPropose, releases_in};
+ghost use Rattle.rex_node.specs.Leading.{IsActive, MaySettle, opened, knowing, goes_on};
+ghost use Rattle.rex_node.specs.Going.{Goes};
 
 use crate::acting::Acting;
 use crate::going::{Going, Round};
@@ -83,13 +79,7 @@ impl<K: Keeper> Node<K> {
         value: &[u8],
     ) -> Result<Going, AllocError>
         requires may { MayPropose K.records K.faults svc.now P.past (whole P.past self.old) instance value.now }
-        ensures opens { IfOk result (Opens K.records K.append_gives K.faults svc.now P.past told instance value.now (whole P.past self.old)
-            (whole P.past self.new) draft.old draft.new) }
-        ensures parts { IfOk result (HasOpened (whole P.past self.old) (whole P.past self.new) instance value.now) }
-        ensures longer { IfOk result (IsLonger K.records (whole P.past self.old) (whole P.past self.new)) }
-        ensures stuck { OnErr result (OpensShort K.records K.append_gives K.faults svc.now P.past told instance value.now (whole P.past self.old)
-            (whole P.past self.new) draft.old) }
-        ensures same { IsSame (whole P.past self.old) (whole P.past self.new) }
+        ensures { OpensOr K.records K.append_gives K.faults svc.now P.past told instance value.now self.old self.new draft.old draft.new result }
     {
         let ballot = self.own_ballot().unwrap_or(0);
         let rec = Rec::Accepted {
@@ -120,9 +110,7 @@ impl<K: Keeper> Node<K> {
         ensures sends { OnOk result (FromLead (whole P.past self.old) (λ l. map (message_in P.past) draft.new.sends.items ≡ map
             (message_in P.past) draft.old.sends.items ++ calls.others self.old.nodes self.old.id
             (content_in P.past (sent.Accept l.ballot instance value.now)))) }
-        ensures keeper { self.new.keeper ≡ self.old.keeper }
-        ensures base { self.new.base ≡ self.old.base }
-        ensures same { IsSame (whole P.past self.old) (whole P.past self.new) }
+        ensures stays { StaysPut self.old self.new }
     {
         let Some(proposer) = &mut self.proposer else {
             unreachable!()
@@ -150,13 +138,7 @@ impl<K: Keeper> Node<K> {
     ) -> Result<Going, AllocError>
         requires may { MayPropose K.records K.faults svc.now P.past (whole P.past self.old) instance value.now }
         requires fits { values_fit svc.now (knows P.past self.old ++ value.now ∷ []) ≡ true }
-        ensures learns { IfOk result (Learns K.records K.append_gives K.faults svc.now P.past instance value.now (whole P.past self.old)
-            (whole P.past self.new) draft.old draft.new) }
-        ensures parts { IfOk result (HasLearned svc.now (whole P.past self.old) (whole P.past self.new) instance value.now) }
-        ensures longer { IfOk result (IsLonger K.records (whole P.past self.old) (whole P.past self.new)) }
-        ensures stuck { OnErr result (LearnsShort K.records K.append_gives K.faults svc.now P.past instance value.now (whole P.past self.old)
-            (whole P.past self.new) draft.old) }
-        ensures same { IsSame (whole P.past self.old) (whole P.past self.new) }
+        ensures { LearnsOr K.records K.append_gives K.faults svc.now P.past instance value.now self.old self.new draft.old draft.new result }
     {
         let _service = svc.declarations();
         let rec = Rec::Known {
@@ -188,9 +170,7 @@ impl<K: Keeper> Node<K> {
             ≡ draft.old.effects.items ++ effect.Known self.old.id instance ∷ releases_in self.old.acting) }
         ensures sends { OnOk result (map (message_in P.past) draft.new.sends.items ≡ map
             (message_in P.past) draft.old.sends.items ++ calls.others self.old.nodes self.old.id (content_in P.past (sent.Chosen instance value.now))) }
-        ensures keeper { self.new.keeper ≡ self.old.keeper }
-        ensures base { self.new.base ≡ self.old.base }
-        ensures same { IsSame (whole P.past self.old) (whole P.past self.new) }
+        ensures stays { StaysPut self.old self.new }
     {
         let node = self.id;
         self.known.push(value, true)?;
@@ -216,9 +196,7 @@ impl<K: Keeper> Node<K> {
         }) }
         ensures effects { OnOk result (draft.new.effects.items ≡ draft.old.effects.items ++ releases_in self.old.acting) }
         ensures sends { OnOk result (draft.new.sends.items ≡ draft.old.sends.items) }
-        ensures keeper { self.new.keeper ≡ self.old.keeper }
-        ensures base { self.new.base ≡ self.old.base }
-        ensures same { IsSame (whole P.past self.old) (whole P.past self.new) }
+        ensures stays { StaysPut self.old self.new }
     {
         if let Some(acting) = &mut self.acting {
             acting.settle(svc, self.alloc, draft)?;
@@ -249,11 +227,7 @@ impl<K: Keeper> Node<K> {
         requires goes { goes_on self.old.proposer (is_some self.old.acting) ≡ true }
         requires next { instance ≡ length (knows P.past self.old) + 1 }
         requires reported { spec.reported_value self.old.proposer instance ≡ Some value.now }
-        ensures goes { IfOk result (GoesRound K.records K.append_gives K.faults svc.now P.past turns (whole P.past self.old)
-            (whole P.past self.new) draft.old draft.new) }
-        ensures stuck { OnErr result (IsStuck K.records K.append_gives K.faults svc.now P.past
-            (calls.settle turns self.old.nodes (service_of svc.now self.old.seed) self.old.id) (whole P.past self.old) (whole P.past self.new) draft.old) }
-        ensures same { IsSame (whole P.past self.old) (whole P.past self.new) }
+        ensures { GoesRoundOr K.records K.append_gives K.faults svc.now P.past turns self.old self.new draft.old draft.new result }
     {
         let _service = svc.declarations();
         let node = self.id;
@@ -286,11 +260,7 @@ impl<K: Keeper> Node<K> {
         turns: u64,
     ) -> Result<Round, AllocError>
         requires may { MaySettle K.records K.faults svc.now P.past turns (whole P.past self.old) draft.old }
-        ensures goes { IfOk result (GoesRound K.records K.append_gives K.faults svc.now P.past turns (whole P.past self.old)
-            (whole P.past self.new) draft.old draft.new) }
-        ensures stuck { OnErr result (IsStuck K.records K.append_gives K.faults svc.now P.past
-            (calls.settle turns self.old.nodes (service_of svc.now self.old.seed) self.old.id) (whole P.past self.old) (whole P.past self.new) draft.old) }
-        ensures same { IsSame (whole P.past self.old) (whole P.past self.new) }
+        ensures { GoesRoundOr K.records K.append_gives K.faults svc.now P.past turns self.old self.new draft.old draft.new result }
     {
         let _service = svc.declarations();
         if !self.goes_on() {
@@ -318,12 +288,8 @@ impl<K: Keeper> Node<K> {
         turns: u64,
     ) -> Result<Going, AllocError>
         requires may { MaySettle K.records K.faults svc.now P.past turns (whole P.past self.old) draft.old }
-        ensures ends { IfOk result (Ends K.records K.append_gives K.faults svc.now P.past
-            (calls.settle turns self.old.nodes (service_of svc.now self.old.seed) self.old.id) (whole P.past self.old)
-            (whole P.past self.new) draft.old draft.new) }
-        ensures stuck { OnErr result (IsStuck K.records K.append_gives K.faults svc.now P.past
-            (calls.settle turns self.old.nodes (service_of svc.now self.old.seed) self.old.id) (whole P.past self.old) (whole P.past self.new) draft.old) }
-        ensures same { IsSame (whole P.past self.old) (whole P.past self.new) }
+        ensures { Goes K.records K.append_gives K.faults svc.now P.past
+            (calls.settle turns self.old.nodes (service_of svc.now self.old.seed) self.old.id) self.old self.new draft.old draft.new result }
     {
         let mut left = turns;
         loop {

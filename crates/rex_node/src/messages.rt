@@ -1,18 +1,16 @@
 //! The messages of other nodes.
 
-ghost use Rattle.std.specs.Prelude.{◌≡◌, ◌<◌, ◌-◌, ◌^◌, [], length, true, None, IfOk, IfErr, OnOk, OnErr};
+ghost use Rattle.std.specs.Prelude.{◌≡◌, ◌<◌, ◌-◌, length, None, IfOk, IfErr};
 ghost use Rattle.rex_msg.specs.Spelling.{HasSpelling};
 ghost use Rattle.rex_cluster.specs.Calls as calls;
 ghost use Rattle.rex_cluster.specs.Calls.{begin};
 ghost use Rattle.rex_cluster.specs.Ranges.{MessageFits};
-ghost use Rattle.rex_cluster.specs.Values.{service_of};
-ghost use Rattle.rex_cluster.specs.Invariant.{Begins};
-ghost use Rattle.rex_cluster.specs.Records as records;
-ghost use Rattle.rex_node.specs.Parts.{count_of, here_of, IsNode, IsSame, StaysNode, whole, knows};
-ghost use Rattle.rex_node.specs.Telling.{AreTold, IsRight, IsToldState, KeepsAsTold, RefusesContent, refusal_of_content};
-ghost use Rattle.rex_log.specs.Messages.{content_in, message_in};
-ghost use Rattle.rex_node.specs.Going.{Ends, IsStuck, RunsOn, so_far};
-ghost use Rattle.rex_node.specs.Calls.{Does, EndsDown, IsSpared, Leaves, Refuses, RefusesThen, if_up, refusal_up};
+ghost use Rattle.rex_node.specs.Parts.{CanFail, MayCall, IsPastOf, here_of, IsNode, knows};
+ghost use Rattle.rex_node.specs.Telling.{StepTells, TellsAfter, IsRight, IsToldState, KeepsAsTold, RefusesContent, refusal_of_content};
+ghost use Rattle.rex_log.specs.Messages.{message_in};
+ghost use Rattle.rex_node.specs.Going.{Goes, RunsOn, so_far};
+ghost use Rattle.rex_node.specs.Calls.{message_call, Does, Refuses, RefusesThen, if_up, refusal_up};
+ghost use Rattle.rex_node.specs.Performing.{Performs};
 
 use crate::going::Going;
 use crate::node::Node;
@@ -47,23 +45,13 @@ impl<K: Keeper> Node<K> {
         requires message { MessageFits self.old.nodes (message_in P.past message.now) }
         requires spelling { HasSpelling message.now }
         requires here { message.now.to ≡ self.old.id }
-        requires past { Begins (records.known (here_of K.records svc.now P.past self.old).log) P.past }
+        requires past { IsPastOf K.records svc.now P.past self.old }
         requires right { IsRight svc.now P.past message.now.content }
-        requires runs { RunsOn svc.now (calls.receive self.old.nodes (service_of svc.now self.old.seed) self.old.id message.now.from
-            (content_in P.past message.now.content)) (begin (here_of K.records svc.now P.past self.old)) }
-        requires count { K.faults self.old.keeper < 2 ^ 64 - 1 }
-        ensures refused { RefusesThen (refusal_up (here_of K.records svc.now P.past self.old))
-            (refusal_of_content svc.now (here_of K.records svc.now P.past self.old) message.now.content) result }
-        ensures told { IfOk result (Does K.records K.append_gives K.faults svc.now P.past
-            (calls.receive self.old.nodes (service_of svc.now self.old.seed) self.old.id message.now.from
-            (content_in P.past message.now.content)) self.old self.new) }
-        ensures tells { IfOk result (λ step. AreTold svc.now P.past step.sends) }
-        ensures down { IfOk result (EndsDown self.old.id (K.faults self.old.keeper) (K.faults self.new.keeper) self.new.up) }
-        ensures left { Leaves K.records K.append_gives K.faults svc.now P.past
-            (calls.receive self.old.nodes (service_of svc.now self.old.seed) self.old.id message.now.from
-            (content_in P.past message.now.content)) result self.old self.new }
-        ensures same { IsSpared result self.old self.new }
-        ensures kept { StaysNode K.records svc.now P.past self.old self.new }
+        requires runs { RunsOn svc.now (message_call svc.now P.past self.old message.now) (begin (here_of K.records svc.now P.past self.old)) }
+        requires count { CanFail K.faults self.old }
+        ensures performs { Performs K.records K.append_gives K.faults svc.now P.past (message_call svc.now P.past self.old message.now)
+            (RefusesThen (refusal_up (here_of K.records svc.now P.past self.old))
+            (refusal_of_content svc.now (here_of K.records svc.now P.past self.old) message.now.content)) self.old self.new result }
         ensures taken { KeepsAsTold message.now.content (K.records self.old.keeper) (K.records self.new.keeper) }
     {
         let _service = svc.declarations();
@@ -107,24 +95,16 @@ impl<K: Keeper> Node<K> {
         message: &Message,
         told: Option<State>,
     ) -> Result<Going, AllocError>
-        requires node { IsNode K.records svc.now P.past self.old }
-        requires up { self.old.up ≡ true }
+        requires may { MayCall K.records K.faults svc.now P.past self.old }
         requires message { MessageFits self.old.nodes (message_in P.past message.now) }
         requires spelling { HasSpelling message.now }
-        requires past { Begins (records.known (here_of K.records svc.now P.past self.old).log) P.past }
+        requires past { IsPastOf K.records svc.now P.past self.old }
         requires right { IsRight svc.now P.past message.now.content }
         requires told { IsToldState svc.now (length (knows P.past self.old)) message.now.content told }
-        requires runs { RunsOn svc.now (calls.receive self.old.nodes (service_of svc.now self.old.seed) self.old.id message.now.from
-            (content_in P.past message.now.content)) (so_far K.records svc.now P.past self.old draft.old) }
-        requires count { K.faults self.old.keeper < 2 ^ 64 - 1 }
-        ensures ends { IfOk result (Ends K.records K.append_gives K.faults svc.now P.past
-            (calls.receive self.old.nodes (service_of svc.now self.old.seed) self.old.id message.now.from (content_in P.past message.now.content))
-            (whole P.past self.old) (whole P.past self.new) draft.old draft.new) }
-        ensures stuck { OnErr result (IsStuck K.records K.append_gives K.faults svc.now P.past
-            (calls.receive self.old.nodes (service_of svc.now self.old.seed) self.old.id message.now.from (content_in P.past message.now.content))
-            (whole P.past self.old) (whole P.past self.new) draft.old) }
-        ensures tells { draft.old.sends.items ≡ [] → OnOk result (AreTold svc.now P.past draft.new.sends.items) }
-        ensures same { IsSame (whole P.past self.old) (whole P.past self.new) }
+        requires runs { RunsOn svc.now (message_call svc.now P.past self.old message.now) (so_far K.records svc.now P.past self.old draft.old) }
+        ensures goes { Goes K.records K.append_gives K.faults svc.now P.past (message_call svc.now P.past self.old message.now) self.old self.new
+            draft.old draft.new result }
+        ensures tells { TellsAfter svc.now P.past draft.old draft.new result }
         ensures taken { KeepsAsTold message.now.content (K.records self.old.keeper) (K.records self.new.keeper) }
     {
         let from = message.from;
@@ -159,7 +139,7 @@ impl<K: Keeper> Node<K> {
         requires node { IsNode K.records svc.now P.past self.old }
         ensures refused { Refuses (refusal_up (here_of K.records svc.now P.past self.old)) result }
         ensures told { IfOk result (Does K.records K.append_gives K.faults svc.now P.past (calls.ask self.old.id to) self.old self.new) }
-        ensures tells { IfOk result (λ step. AreTold svc.now P.past step.sends) }
+        ensures tells { StepTells svc.now P.past result }
         ensures same { self.new ≡ self.old }
     {
         let _service = svc.declarations();

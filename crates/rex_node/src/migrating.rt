@@ -1,13 +1,14 @@
 //! How a node writes down its last checkpoint again, in the new version.
 
-ghost use Rattle.std.specs.Prelude.{◌≡◌, ◌<◌, ◌-◌, ◌^◌, true, IfOk};
+ghost use Rattle.std.specs.Prelude.{◌≡◌, ◌<◌, ◌-◌};
 ghost use Rattle.rex_durable.specs.Spelling.{HasSpelling, record_bytes};
 ghost use Rattle.rex_cluster.specs.Calls as calls;
 ghost use Rattle.rex_cluster.specs.Values.{service_of};
-ghost use Rattle.rex_node.specs.Calls.{Does, EndsDown, IsSpared, LeavesAll, Refuses, refusal_of_migrate};
+ghost use Rattle.rex_node.specs.Calls.{Refuses, refusal_of_migrate};
 ghost use Rattle.rex_node.specs.Checkpointing.{MigratesOr};
 ghost use Rattle.rex_node.specs.Migrating.{StillSay};
-ghost use Rattle.rex_node.specs.Parts.{IsNode, StaysNode, here_of, whole};
+ghost use Rattle.rex_node.specs.Parts.{CanFail, IsNode, here_of, whole};
+ghost use Rattle.rex_node.specs.Performing.{PerformsAtOnce};
 
 use crate::checkpointing::{only, record_of};
 use crate::node::Node;
@@ -39,7 +40,7 @@ impl<K: Keeper> Node<K> {
 
     // Appends the record of the last checkpoint in the new version. Where the keeper fails the node is down.
     fn save_again<P: Past>(&mut self, rec: &Rec) -> Result<(), KeepFault>
-        requires count { K.faults self.old.keeper < 2 ^ 64 - 1 }
+        requires count { CanFail K.faults self.old }
         requires spelling { HasSpelling rec.now }
         ensures { MigratesOr K.records K.faults K.append_gives (whole P.past self.old) (whole P.past self.new) (record_bytes rec.now) result }
     {
@@ -54,14 +55,10 @@ impl<K: Keeper> Node<K> {
     /// that comes up does so first.
     pub fn migrate<P: Past>(&mut self, svc: &Checked) -> Result<Step, Refusal>
         requires node { IsNode K.records svc.now P.past self.old }
-        requires count { K.faults self.old.keeper < 2 ^ 64 - 1 }
-        ensures refused { Refuses (refusal_of_migrate (here_of K.records svc.now P.past self.old)) result }
-        ensures told { IfOk result (Does K.records K.append_gives K.faults svc.now P.past
-            (calls.migrate (service_of svc.now self.old.seed) self.old.id) self.old self.new) }
-        ensures down { IfOk result (EndsDown self.old.id (K.faults self.old.keeper) (K.faults self.new.keeper) self.new.up) }
-        ensures left { LeavesAll K.records K.append_gives K.faults result self.old self.new }
-        ensures same { IsSpared result self.old self.new }
-        ensures kept { StaysNode K.records svc.now P.past self.old self.new }
+        requires count { CanFail K.faults self.old }
+        ensures performs { PerformsAtOnce K.records K.append_gives K.faults svc.now P.past
+            (calls.migrate (service_of svc.now self.old.seed) self.old.id) (Refuses (refusal_of_migrate (here_of K.records svc.now P.past self.old)))
+            self.old self.new result }
         ensures again { StillSay svc.now self.old.start (K.records self.old.keeper) (K.records self.new.keeper) }
     {
         let _service = svc.declarations();

@@ -1,6 +1,6 @@
 //! A node, and what its clients and lanes get of it.
 
-ghost use Rattle.std.specs.Prelude.{◌≡◌, ◌<◌, ◌≤◌, ◌+◌, ◌^◌, ◌∷◌, [], false, Some, None, is_some, length, option_map, IsSome, IfOk, OnOk, OnErr};
+ghost use Rattle.std.specs.Prelude.{◌≡◌, ◌<◌, ◌≤◌, ◌+◌, ◌^◌, ◌∷◌, [], false, Some, None, length, option_map, IsSome, IfOk, OnOk, OnErr};
 ghost use Rattle.std.specs.Option.{option_copied};
 ghost use Rattle.rex_state.specs.Machine.{lane_of, run};
 ghost use Rattle.rex_state.specs.Counts.{AreCounted};
@@ -10,9 +10,9 @@ ghost use Rattle.rex_cluster.specs.Calls.{begin};
 ghost use Rattle.rex_cluster.specs.Lanes.{effect_of, live_state, submit_request, turned};
 ghost use Rattle.rex_cluster.specs.Takes as takes;
 ghost use Rattle.rex_log.specs.Log.{proposal_in};
-ghost use Rattle.rex_node.specs.Parts.{fallen, stopped, here_of, role_of, open_of, IsNode, StaysNode, count_of, knows};
+ghost use Rattle.rex_node.specs.Parts.{role_in, fallen, stopped, here_of, open_of, IsNode, StaysNode, count_of, knows};
 ghost use Rattle.rex_node.specs.Blocks.{take_each};
-ghost use Rattle.rex_node.specs.Calls.{Refuses, LeadsTo, if_up, if_active, refusal_active, turn_at};
+ghost use Rattle.rex_node.specs.Calls.{RefusesIdle, LeadsNode, if_up, if_active, turn_at};
 
 use crate::acting::Acting;
 use crate::decoded::Decoded;
@@ -137,7 +137,7 @@ impl<K: Keeper> Node<K> {
 
     /// What the node does in its cluster.
     pub fn role(&self) -> Role
-        ensures { result ≡ role_name (role_of self.now.acceptor self.now.proposer (is_some self.now.acting)) }
+        ensures { result ≡ role_name (role_in self.now) }
     {
         match &self.proposer {
             None => Role::Follower,
@@ -174,7 +174,7 @@ impl<K: Keeper> Node<K> {
 
     // Why the node doesn't do what only an active node does.
     pub(crate) fn active_refusal(&self) -> Option<Refusal>
-        ensures why { result ≡ if_up self.now.up (if_active (role_of self.now.acceptor self.now.proposer (is_some self.now.acting)) None) }
+        ensures why { result ≡ if_up self.now.up (if_active (role_in self.now) None) }
         ensures acts { result ≡ None → IsSome self.now.acting }
     {
         if !self.up {
@@ -191,11 +191,10 @@ impl<K: Keeper> Node<K> {
     pub fn submit<P: Past>(&mut self, svc: &Checked, request: &Request) -> Result<Answer, Refusal>
         requires node { IsNode K.records svc.now P.past self.old }
         requires request { RequestFits svc.now request.now }
-        ensures refused { Refuses (refusal_active (here_of K.records svc.now P.past self.old)) result }
+        ensures refused { RefusesIdle K.records svc.now P.past self.old result }
         ensures told { IfOk result (λ answer. effect_of request.now answer ∷ [] ≡
             (submit_request svc.now (Some request.now) (begin (here_of K.records svc.now P.past self.old))).effects) }
-        ensures node { OnOk result (LeadsTo (submit_request svc.now (Some request.now)) (here_of K.records svc.now P.past self.old)
-            (here_of K.records svc.now P.past self.new)) }
+        ensures node { OnOk result (LeadsNode K.records svc.now P.past (submit_request svc.now (Some request.now)) self.old self.new) }
         ensures same { OnErr result (self.new ≡ self.old) }
         ensures keeper { self.new.keeper ≡ self.old.keeper }
         ensures kept { StaysNode K.records svc.now P.past self.old self.new }
@@ -216,10 +215,9 @@ impl<K: Keeper> Node<K> {
         requires node { IsNode K.records svc.now P.past self.old }
         requires there { lane < svc.now.lanes }
         requires count { (lane_of (live_state svc.now (here_of K.records svc.now P.past self.old)) lane).done + 1 < 2 ^ 32 }
-        ensures refused { Refuses (refusal_active (here_of K.records svc.now P.past self.old)) result }
+        ensures refused { RefusesIdle K.records svc.now P.past self.old result }
         ensures told { IfOk result (λ turn. turn ≡ turn_at svc.now (here_of K.records svc.now P.past self.old) lane now) }
-        ensures node { IfOk result (λ turn. LeadsTo (turned svc.now lane turn) (here_of K.records svc.now P.past self.old)
-            (here_of K.records svc.now P.past self.new)) }
+        ensures node { IfOk result (λ turn. LeadsNode K.records svc.now P.past (turned svc.now lane turn) self.old self.new) }
         ensures same { OnErr result (self.new ≡ self.old) }
         ensures keeper { self.new.keeper ≡ self.old.keeper }
         ensures kept { StaysNode K.records svc.now P.past self.old self.new }
@@ -240,10 +238,9 @@ impl<K: Keeper> Node<K> {
     pub fn take_event<P: Past>(&mut self, svc: &Checked, event: &Event) -> Result<Turn, Refusal>
         requires node { IsNode K.records svc.now P.past self.old }
         requires count { (lane_of (live_state svc.now (here_of K.records svc.now P.past self.old)) event.now.lane).done + 1 < 2 ^ 32 }
-        ensures refused { Refuses (refusal_active (here_of K.records svc.now P.past self.old)) result }
+        ensures refused { RefusesIdle K.records svc.now P.past self.old result }
         ensures told { IfOk result (λ turn. turn ≡ takes.taken_in svc.now (here_of K.records svc.now P.past self.old) event.now) }
-        ensures node { IfOk result (λ turn. LeadsTo (takes.taken turn) (here_of K.records svc.now P.past self.old)
-            (here_of K.records svc.now P.past self.new)) }
+        ensures node { IfOk result (λ turn. LeadsNode K.records svc.now P.past (takes.taken turn) self.old self.new) }
         ensures same { OnErr result (self.new ≡ self.old) }
         ensures keeper { self.new.keeper ≡ self.old.keeper }
         ensures kept { StaysNode K.records svc.now P.past self.old self.new }
@@ -270,9 +267,8 @@ impl<K: Keeper> Node<K> {
         requires node { IsNode K.records svc.now P.past self.old }
         requires runs { run svc.now (live_state svc.now (here_of K.records svc.now P.past self.old)) events.now ≡ Some state }
         requires counted { AreCounted events.now }
-        ensures refused { Refuses (refusal_active (here_of K.records svc.now P.past self.old)) result }
-        ensures node { OnOk result (LeadsTo (take_each svc.now events.now) (here_of K.records svc.now P.past self.old)
-            (here_of K.records svc.now P.past self.new)) }
+        ensures refused { RefusesIdle K.records svc.now P.past self.old result }
+        ensures node { OnOk result (LeadsNode K.records svc.now P.past (take_each svc.now events.now) self.old self.new) }
         ensures same { OnErr result (self.new ≡ self.old) }
         ensures keeper { self.new.keeper ≡ self.old.keeper }
         ensures kept { StaysNode K.records svc.now P.past self.old self.new }

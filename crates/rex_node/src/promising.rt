@@ -1,6 +1,6 @@
 //! What a node promises and accepts.
 
-ghost use Rattle.std.specs.Prelude.{◌≡◌, ◌<◌, ◌-◌, ◌∷◌, ◌^◌, [], true, is_some, IfOk, OnOk, OnErr};
+ghost use Rattle.std.specs.Prelude.{◌≡◌, ◌<◌, ◌-◌, ◌∷◌, true, OnOk};
 ghost use Rattle.rex_ballot.specs.Ballot.{IsBallot, IsInstance};
 ghost use Rattle.rex_ballot.specs.Proposals.{IsValue, from_instance};
 ghost use Rattle.rex_paxos.specs.Acceptor.{answer_to_accept, accepting, promising};
@@ -9,11 +9,9 @@ ghost use Rattle.rex_msg.specs.declared.message.Content.TheVariants as sent;
 ghost use Rattle.rex_report.specs.declared.effect.Effect.TheVariants as effect;
 ghost use Rattle.rex_cluster.specs.Calls as calls;
 ghost use Rattle.rex_cluster.specs.Calls.{followed};
-ghost use Rattle.rex_node.specs.Parts.{IsNode, IsSame, here_of, leaving, role_of, whole};
-ghost use Rattle.rex_node.specs.Telling.{AreTold};
-ghost use Rattle.rex_cluster.specs.Invariant.{Begins};
-ghost use Rattle.rex_cluster.specs.Records as records;
-ghost use Rattle.rex_node.specs.Going.{Ends, IsStuck, Sends, Tells, answering};
+ghost use Rattle.rex_node.specs.Parts.{StaysPut, role_in, MayCall, IsPastOf, leaving, whole};
+ghost use Rattle.rex_node.specs.Going.{Goes, Sends, Tells, answering};
+ghost use Rattle.rex_node.specs.Telling.{TellsAfter};
 
 use crate::going::Going;
 use crate::node::Node;
@@ -39,17 +37,12 @@ impl<K: Keeper> Node<K> {
         ballot: u64,
         first: u32,
     ) -> Result<Going, AllocError>
-        requires node { IsNode K.records svc.now P.past self.old }
-        requires up { self.old.up ≡ true }
+        requires may { MayCall K.records K.faults svc.now P.past self.old }
         requires ballot { IsBallot ballot }
-        requires count { K.faults self.old.keeper < 2 ^ 64 - 1 }
-        requires past { Begins (records.known (here_of K.records svc.now P.past self.old).log) P.past }
-        ensures ends { IfOk result (Ends K.records K.append_gives K.faults svc.now P.past (calls.on_prepare self.old.id from ballot first)
-            (whole P.past self.old) (whole P.past self.new) draft.old draft.new) }
-        ensures stuck { OnErr result (IsStuck K.records K.append_gives K.faults svc.now P.past (calls.on_prepare self.old.id from ballot first)
-            (whole P.past self.old) (whole P.past self.new) draft.old) }
-        ensures tells { draft.old.sends.items ≡ [] → OnOk result (AreTold svc.now P.past draft.new.sends.items) }
-        ensures same { IsSame (whole P.past self.old) (whole P.past self.new) }
+        requires past { IsPastOf K.records svc.now P.past self.old }
+        ensures goes { Goes K.records K.append_gives K.faults svc.now P.past (calls.on_prepare self.old.id from ballot first) self.old self.new
+            draft.old draft.new result }
+        ensures tells { TellsAfter svc.now P.past draft.old draft.new result }
     {
         let _service = svc.declarations();
         let promised = self.acceptor.promised();
@@ -78,19 +71,14 @@ impl<K: Keeper> Node<K> {
         instance: u32,
         value: &[u8],
     ) -> Result<Going, AllocError>
-        requires node { IsNode K.records svc.now P.past self.old }
-        requires up { self.old.up ≡ true }
+        requires may { MayCall K.records K.faults svc.now P.past self.old }
         requires ballot { IsBallot ballot }
         requires instance { IsInstance instance }
         requires value { IsValue value.now }
-        requires count { K.faults self.old.keeper < 2 ^ 64 - 1 }
-        requires past { Begins (records.known (here_of K.records svc.now P.past self.old).log) P.past }
-        ensures ends { IfOk result (Ends K.records K.append_gives K.faults svc.now P.past (calls.on_accept self.old.id from ballot instance value.now)
-            (whole P.past self.old) (whole P.past self.new) draft.old draft.new) }
-        ensures stuck { OnErr result (IsStuck K.records K.append_gives K.faults svc.now P.past
-            (calls.on_accept self.old.id from ballot instance value.now) (whole P.past self.old) (whole P.past self.new) draft.old) }
-        ensures tells { draft.old.sends.items ≡ [] → OnOk result (AreTold svc.now P.past draft.new.sends.items) }
-        ensures same { IsSame (whole P.past self.old) (whole P.past self.new) }
+        requires past { IsPastOf K.records svc.now P.past self.old }
+        ensures goes { Goes K.records K.append_gives K.faults svc.now P.past (calls.on_accept self.old.id from ballot instance value.now) self.old
+            self.new draft.old draft.new result }
+        ensures tells { TellsAfter svc.now P.past draft.old draft.new result }
     {
         let _service = svc.declarations();
         match self.acceptor.on_accept(ballot, instance) {
@@ -121,18 +109,13 @@ impl<K: Keeper> Node<K> {
         ballot: u64,
         first: u32,
     ) -> Result<Going, AllocError>
-        requires node { IsNode K.records svc.now P.past self.old }
-        requires up { self.old.up ≡ true }
+        requires may { MayCall K.records K.faults svc.now P.past self.old }
         requires ballot { IsBallot ballot }
         requires late { self.old.offset < first }
         requires above { self.old.acceptor.promised < ballot }
-        requires count { K.faults self.old.keeper < 2 ^ 64 - 1 }
-        ensures ends { IfOk result (Ends K.records K.append_gives K.faults svc.now P.past (calls.on_prepare self.old.id from ballot first)
-            (whole P.past self.old) (whole P.past self.new) draft.old draft.new) }
-        ensures stuck { OnErr result (IsStuck K.records K.append_gives K.faults svc.now P.past (calls.on_prepare self.old.id from ballot first)
-            (whole P.past self.old) (whole P.past self.new) draft.old) }
-        ensures tells { draft.old.sends.items ≡ [] → OnOk result (AreTold svc.now P.past draft.new.sends.items) }
-        ensures same { IsSame (whole P.past self.old) (whole P.past self.new) }
+        ensures goes { Goes K.records K.append_gives K.faults svc.now P.past (calls.on_prepare self.old.id from ballot first) self.old self.new
+            draft.old draft.new result }
+        ensures tells { TellsAfter svc.now P.past draft.old draft.new result }
     {
         let _service = svc.declarations();
         let rec = Rec::Promised { ballot };
@@ -156,20 +139,15 @@ impl<K: Keeper> Node<K> {
         instance: u32,
         value: &[u8],
     ) -> Result<Going, AllocError>
-        requires node { IsNode K.records svc.now P.past self.old }
-        requires up { self.old.up ≡ true }
+        requires may { MayCall K.records K.faults svc.now P.past self.old }
         requires ballot { IsBallot ballot }
         requires instance { IsInstance instance }
         requires value { IsValue value.now }
         requires late { self.old.offset < instance }
         requires fresh { answer_to_accept self.old.acceptor ballot instance ≡ asked.Accept true }
-        requires count { K.faults self.old.keeper < 2 ^ 64 - 1 }
-        ensures ends { IfOk result (Ends K.records K.append_gives K.faults svc.now P.past (calls.on_accept self.old.id from ballot instance value.now)
-            (whole P.past self.old) (whole P.past self.new) draft.old draft.new) }
-        ensures stuck { OnErr result (IsStuck K.records K.append_gives K.faults svc.now P.past
-            (calls.on_accept self.old.id from ballot instance value.now) (whole P.past self.old) (whole P.past self.new) draft.old) }
-        ensures tells { draft.old.sends.items ≡ [] → OnOk result (AreTold svc.now P.past draft.new.sends.items) }
-        ensures same { IsSame (whole P.past self.old) (whole P.past self.new) }
+        ensures goes { Goes K.records K.append_gives K.faults svc.now P.past (calls.on_accept self.old.id from ballot instance value.now) self.old
+            self.new draft.old draft.new result }
+        ensures tells { TellsAfter svc.now P.past draft.old draft.new result }
     {
         let _service = svc.declarations();
         let rec = Rec::Accepted {
@@ -190,11 +168,8 @@ impl<K: Keeper> Node<K> {
     // The promise is written down, and the node is a follower.
     fn raised<P: Past>(&mut self, draft: &mut Draft, ballot: u64) -> Result<(), AllocError>
         ensures raised { OnOk result (whole P.past self.new ≡ record (leaving (whole P.past self.old)) { acceptor = promising self.old.acceptor ballot }) }
-        ensures told { OnOk result (Tells draft.old draft.new (effect.Promised self.old.id ballot ∷ followed self.old.id
-            (role_of self.old.acceptor self.old.proposer (is_some self.old.acting)))) }
-        ensures keeper { self.new.keeper ≡ self.old.keeper }
-        ensures base { self.new.base ≡ self.old.base }
-        ensures same { IsSame (whole P.past self.old) (whole P.past self.new) }
+        ensures told { OnOk result (Tells draft.old draft.new (effect.Promised self.old.id ballot ∷ followed self.old.id (role_in self.old))) }
+        ensures stays { StaysPut self.old self.new }
     {
         let node = self.id;
         draft.tell(Effect::Promised { node, ballot })?;
@@ -215,11 +190,8 @@ impl<K: Keeper> Node<K> {
           acceptor = accepting self.old.acceptor
               (record { instance = instance; ballot = ballot; value = value.now });
         }) }
-        ensures told { OnOk result (Tells draft.old draft.new (effect.Accepted self.old.id ballot instance ∷ followed self.old.id
-            (role_of self.old.acceptor self.old.proposer (is_some self.old.acting)))) }
-        ensures keeper { self.new.keeper ≡ self.old.keeper }
-        ensures base { self.new.base ≡ self.old.base }
-        ensures same { IsSame (whole P.past self.old) (whole P.past self.new) }
+        ensures told { OnOk result (Tells draft.old draft.new (effect.Accepted self.old.id ballot instance ∷ followed self.old.id (role_in self.old))) }
+        ensures stays { StaysPut self.old self.new }
     {
         let node = self.id;
         draft.tell(Effect::Accepted {

@@ -1,19 +1,15 @@
 //! How a node replays what it knows.
 
-ghost use Rattle.std.specs.Prelude.{◌≡◌, ◌≢◌, ◌<◌, ◌≤◌, ◌-◌, ◌^◌, true, length, take, Some, None, is_some, option_map, IfOk, OnErr};
-ghost use Rattle.std.specs.Option.{option_copied};
-ghost use Rattle.rex_event.specs.Cuts.{below};
-ghost use Rattle.rex_cut.specs.Greatest.{greatest_cut};
+ghost use Rattle.std.specs.Prelude.{◌≡◌, ◌≢◌, ◌<◌, ◌≤◌, ◌-◌, true, length, take, Some, None, IfOk};
 ghost use Rattle.rex_state.specs.Machine.{run};
 ghost use Rattle.rex_state.specs.Start.{start_of};
 ghost use Rattle.rex_cluster.specs.Calls as calls;
-ghost use Rattle.rex_cluster.specs.Lanes as lanes;
-ghost use Rattle.rex_cluster.specs.Values.{service_of, trace_of};
+ghost use Rattle.rex_cluster.specs.Values.{trace_of};
 ghost use Rattle.rex_node.specs.Parts as parts;
-ghost use Rattle.rex_log.specs.Log.{proposal_in};
-ghost use Rattle.rex_node.specs.Parts.{here_of, open_of, role_of, IsKept, IsNode, StaysNode, knows, whole};
-ghost use Rattle.rex_node.specs.Calls.{AreLimits, CanBeCut, Does, EndsDown, Leaves, Refuses, RefusesThen, counts_for, if_active, if_up};
-ghost use Rattle.rex_node.specs.Calls.{refusal_of_lead, refusal_of_none, refusal_of_open, refusal_of_cut, refusal_of_checkpoint, refusal_of_replay};
+ghost use Rattle.rex_node.specs.Parts.{here_of, IsKept, IsNode, knows, whole};
+ghost use Rattle.rex_node.specs.Calls.{Refuses};
+ghost use Rattle.rex_node.specs.Calls.{refusal_of_replay};
+ghost use Rattle.rex_node.specs.Performing.{PerformsInMemory};
 
 use crate::checkpointing::only;
 use crate::node::Node;
@@ -38,11 +34,8 @@ impl<K: Keeper> Node<K> {
         replayer: &mut R,
     ) -> Result<Step, Refusal>
         requires node { IsNode K.records svc.now P.past self.old }
-        ensures refused { Refuses (refusal_of_replay (here_of K.records svc.now P.past self.old)) result }
-        ensures told { IfOk result (Does K.records K.append_gives K.faults svc.now P.past (calls.replay self.old.id) self.old self.new) }
-        ensures same { OnErr result (self.new ≡ self.old) }
-        ensures keeper { self.new.keeper ≡ self.old.keeper }
-        ensures kept { StaysNode K.records svc.now P.past self.old self.new }
+        ensures { PerformsInMemory K.records K.append_gives K.faults svc.now P.past (calls.replay self.old.id)
+            (Refuses (refusal_of_replay (here_of K.records svc.now P.past self.old))) self.old self.new result }
     {
         if let Some(refusal) = self.replay_refusal::<P>(svc) {
             return Err(refusal);
@@ -55,11 +48,8 @@ impl<K: Keeper> Node<K> {
     pub fn take_replayed<P: Past>(&mut self, svc: &Checked, state: State) -> Result<Step, Refusal>
         requires node { IsNode K.records svc.now P.past self.old }
         requires runs { run svc.now (start_of svc.now) (trace_of (knows P.past self.old)) ≡ Some state }
-        ensures refused { Refuses (refusal_of_replay (here_of K.records svc.now P.past self.old)) result }
-        ensures told { IfOk result (Does K.records K.append_gives K.faults svc.now P.past (calls.replay self.old.id) self.old self.new) }
-        ensures same { OnErr result (self.new ≡ self.old) }
-        ensures keeper { self.new.keeper ≡ self.old.keeper }
-        ensures kept { StaysNode K.records svc.now P.past self.old self.new }
+        ensures { PerformsInMemory K.records K.append_gives K.faults svc.now P.past (calls.replay self.old.id)
+            (Refuses (refusal_of_replay (here_of K.records svc.now P.past self.old))) self.old self.new result }
     {
         if let Some(refusal) = self.replay_refusal::<P>(svc) {
             return Err(refusal);

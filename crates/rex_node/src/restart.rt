@@ -1,19 +1,15 @@
 //! How a node comes up.
 
-ghost use Rattle.std.specs.Prelude.{◌≡◌, ◌<◌, ◌≤◌, ℕ, List, length, take, true, Ok, Some, IfOk, IfErr, IfSome, IsOk, OnErr, OnOk};
-ghost use Rattle.std.specs.List.{All, list_all};
+ghost use Rattle.std.specs.Prelude.{◌≡◌, ◌<◌, ◌≤◌, length, take, true, Ok, Some, IfOk, IfErr, IfSome, OnErr, OnOk};
+ghost use Rattle.std.specs.List.{All};
 ghost use Rattle.std.specs.Option.{option_copied};
 ghost use Rattle.rex_ballot.specs.Limits.{most_nodes};
 ghost use Rattle.rex_durable.specs.Laws.{IsRecovered};
-ghost use Rattle.rex_snapshot.specs.Reading.{state_in};
 ghost use Rattle.rex_transfer.specs.Window.{SpellsDelta};
-ghost use Rattle.rex_cluster.specs.Records.{known};
-ghost use Rattle.rex_cluster.specs.Values.{spells, values_fit};
-ghost use Rattle.rex_log.specs.Log.{AreRead, log_of};
 ghost use Rattle.rex_node.specs.Parts.{HasDecoded, HasReached, IsNode, knows};
-ghost use Rattle.rex_node.specs.Stated.{AreStated};
 ghost use Rattle.rex_node.specs.declared.restart.RestartFault.TheVariants.{OutOfMemory};
-ghost use Rattle.rex_node.specs.Restarting.{CameUp, HasForgotten, HasRightBase, IsRead, IsRecalled, IsRestartFault, BeginAlike, KeepsReached, decoded_last, down_with, risen, state_at};
+ghost use Rattle.rex_node.specs.Restarting.{BeginAlike, CameUp, IsRead, IsRecalled, IsRestartFault, KeepsReached, WhereRead, WhereRight};
+ghost use Rattle.rex_node.specs.Restarting.{decoded_last, down_with, risen, state_at};
 
 use crate::contents::{Place, bad_at, bad_place, ends_old};
 use crate::decoded::{Decoded, decoded_anew, known_state, remember};
@@ -80,13 +76,10 @@ impl<K: Keeper> Node<K> {
         requires there { (0 < id) × (id ≤ nodes) }
         requires few { nodes ≤ most_nodes }
         ensures up { IfOk result (CameUp K.records svc.now P.past id nodes seed keeper) }
-        ensures kept { values_fit svc.now (known (log_of svc.now P.past (K.records keeper))) ≡ true
-            → HasRightBase svc.now (log_of svc.now P.past (K.records keeper)) → HasForgotten P.past (log_of svc.now P.past (K.records keeper))
-            → IfOk result (IsNode K.records svc.now P.past) }
+        ensures kept { WhereRight svc.now P.past (K.records keeper) (IfOk result (IsNode K.records svc.now P.past)) }
         ensures back { IfErr result (λ e. e.keeper ≡ keeper) }
         ensures fault { IfErr result (λ e. IsRestartFault svc.now (K.records keeper) e.fault) }
-        ensures read { AreRead svc.now P.past (K.records keeper) → AreStated svc.now (K.records keeper)
-            → list_all (spells svc.now) (known (log_of svc.now P.past (K.records keeper))) ≡ true → IfErr result (λ e. e.fault ≡ OutOfMemory) }
+        ensures read { WhereRead svc.now P.past (K.records keeper) (IfErr result (λ e. e.fault ≡ OutOfMemory)) }
     {
         let Ok(start) = State::start(alloc, svc) else {
             return Err(NotStarted {
@@ -112,14 +105,11 @@ impl<K: Keeper> Node<K> {
         requires few { self.old.nodes ≤ most_nodes }
         requires decoded { HasDecoded svc.now self.old.decoded }
         ensures up { OnOk result (CameUp K.records svc.now P.past self.old.id self.old.nodes self.old.seed self.old.keeper self.new) }
-        ensures kept { HasReached svc.now self.old.offset (knows P.past self.old) self.old.reached
-            → values_fit svc.now (known (log_of svc.now P.past (K.records self.old.keeper))) ≡ true
-            → HasRightBase svc.now (log_of svc.now P.past (K.records self.old.keeper)) → HasForgotten P.past (log_of svc.now P.past (K.records self.old.keeper))
-            → OnOk result (IsNode K.records svc.now P.past self.new) }
+        ensures kept { HasReached svc.now self.old.offset (knows P.past self.old) self.old.reached → WhereRight svc.now P.past
+            (K.records self.old.keeper) (OnOk result (IsNode K.records svc.now P.past self.new)) }
         ensures back { OnErr result (self.new ≡ self.old) }
         ensures fault { IfErr result (IsRestartFault svc.now (K.records self.old.keeper)) }
-        ensures read { AreRead svc.now P.past (K.records self.old.keeper) → AreStated svc.now (K.records self.old.keeper)
-            → list_all (spells svc.now) (known (log_of svc.now P.past (K.records self.old.keeper))) ≡ true → IfErr result (λ e. e ≡ OutOfMemory) }
+        ensures read { WhereRead svc.now P.past (K.records self.old.keeper) (IfErr result (λ e. e ≡ OutOfMemory)) }
     {
         let recalled = recall(self.alloc, svc, &self.keeper, &self.known, &self.decoded)?;
         self.rise(recalled);

@@ -1,6 +1,6 @@
 //! What a node tells of itself.
 
-ghost use Rattle.std.specs.Prelude.{◌≡◌, ◌≤◌, None, Ok, IfOk, true, is_some, length, option_map};
+ghost use Rattle.std.specs.Prelude.{◌≡◌, ◌≤◌, None, Ok, IfOk, true, length, option_map};
 ghost use Rattle.std.specs.Option.{option_copied};
 ghost use Rattle.rex_ballot.specs.Proposals.{proposal_for};
 ghost use Rattle.rex_ballot.specs.declared.proposal.Proposal.{Proposal as Kept};
@@ -10,7 +10,7 @@ ghost use Rattle.rex_cluster.specs.Reading as reading;
 ghost use Rattle.rex_cluster.specs.Reading.{read_at, stamp_at};
 ghost use Rattle.rex_node.specs.Checkpointing.{replayed_state};
 ghost use Rattle.rex_node.specs.Parts as parts;
-ghost use Rattle.rex_node.specs.Parts.{IsNode, here_of, open_of, proposed_value, role_of, state_of, shown_of, work_of};
+ghost use Rattle.rex_node.specs.Parts.{role_in, IsNode, here_of, open_of, proposed_value, state_of, shown_of, work_of};
 
 use crate::node::Node;
 use crate::replaying::ahead_of;
@@ -78,7 +78,7 @@ impl<K: Keeper> Node<K> {
 
     /// The value of its open proposal, where it leads, or asks to, and has one.
     pub fn open_value(&self) -> Option<&[u8]>
-        ensures { option_copied result ≡ parts.open_value (role_of self.now.acceptor self.now.proposer (is_some self.now.acting)) }
+        ensures { option_copied result ≡ parts.open_value (role_in self.now) }
     {
         match &self.proposer {
             None => None,
@@ -112,7 +112,7 @@ impl<K: Keeper> Node<K> {
 
     // Whether the node leads and executes.
     fn is_active(&self) -> bool
-        ensures { result ≡ is_active (role_of self.now.acceptor self.now.proposer (is_some self.now.acting)) }
+        ensures { result ≡ is_active (role_in self.now) }
     {
         match &self.proposer {
             None => false,

@@ -1,6 +1,6 @@
 //! How a node drops values, and how it tells and takes over the state at a base.
 
-ghost use Rattle.std.specs.Prelude.{◌≡◌, ◌<◌, ◌≤◌, ◌-◌, ◌∷◌, ◌^◌, [], length, nat_lt, true, is_some, Ok, IfOk, OnOk, OnErr, IfErr};
+ghost use Rattle.std.specs.Prelude.{◌≡◌, ◌<◌, ◌≤◌, ◌-◌, ◌∷◌, length, nat_lt, true, Ok, IfOk, OnOk, OnErr, IfErr};
 ghost use Rattle.rex_ballot.specs.Ballot.{IsInstance};
 ghost use Rattle.rex_ballot.specs.Proposals.{IsValue};
 ghost use Rattle.rex_msg.specs.declared.message.Content.TheVariants as sent;
@@ -11,14 +11,12 @@ ghost use Rattle.rex_snapshot.specs.Spelling.{IsLimited};
 ghost use Rattle.rex_state.specs.Sound.{IsSound};
 ghost use Rattle.rex_syntax.specs.declared.version.Version.TheVariants.{Two};
 ghost use Rattle.rex_log.specs.Log.{first};
-ghost use Rattle.rex_cluster.specs.Invariant.{Begins};
-ghost use Rattle.rex_cluster.specs.Records.{known};
 ghost use Rattle.rex_cluster.specs.Calls as calls;
 ghost use Rattle.rex_cluster.specs.Calls.{followed};
-ghost use Rattle.rex_cluster.specs.Values.{service_of, values_fit};
-ghost use Rattle.rex_node.specs.Parts.{IsNode, IsSame, StaysNode, count_of, here_of, leaving, role_of, whole, knows};
-ghost use Rattle.rex_node.specs.Going.{Ends, IsStuck, RunsOn, Tells, TellsBase, so_far};
-ghost use Rattle.rex_node.specs.Calls.{Does, EndsDown, IsSpared, Leaves, Refuses, refusal_of_drop};
+ghost use Rattle.rex_cluster.specs.Values.{values_fit};
+ghost use Rattle.rex_node.specs.Parts.{CanFail, role_in, MayCall, IsPastOf, IsNode, IsSame, StaysNode, count_of, here_of, leaving, whole, knows};
+ghost use Rattle.rex_node.specs.Going.{Goes, RunsOn, Tells, TellsBase, so_far};
+ghost use Rattle.rex_node.specs.Calls.{TellsDown, snapshot_call, Does, IsSpared, Leaves, Refuses, refusal_of_drop};
 ghost use Rattle.rex_node.specs.Telling as spec;
 ghost use Rattle.rex_node.specs.Telling.{IsRight, IsToldState, KeepsAsTold, LeadTo, RefusesState};
 
@@ -66,11 +64,11 @@ impl<K: Keeper> Node<K> {
     /// Forgets the values up to the base, and what was accepted for their instances. It takes memory for what is told alone.
     pub fn drop_known<P: Past>(&mut self, svc: &Checked) -> Result<Step, Refusal>
         requires node { IsNode K.records svc.now P.past self.old }
-        requires past { Begins (known (here_of K.records svc.now P.past self.old).log) P.past }
-        requires count { K.faults self.old.keeper < 2 ^ 64 - 1 }
+        requires past { IsPastOf K.records svc.now P.past self.old }
+        requires count { CanFail K.faults self.old }
         ensures refused { Refuses (refusal_of_drop (here_of K.records svc.now P.past self.old)) result }
         ensures told { IfOk result (Does K.records K.append_gives K.faults svc.now P.past (calls.drop_known self.old.id) self.old self.new) }
-        ensures down { IfOk result (EndsDown self.old.id (K.faults self.old.keeper) (K.faults self.new.keeper) self.new.up) }
+        ensures down { TellsDown K.faults self.old self.new result }
         ensures left { Leaves K.records K.append_gives K.faults svc.now P.past (calls.drop_known self.old.id) result self.old self.new }
         ensures same { IsSpared result self.old self.new }
         ensures kept { StaysNode K.records svc.now P.past self.old self.new }
@@ -94,16 +92,10 @@ impl<K: Keeper> Node<K> {
         svc: &Checked,
         draft: &mut Draft,
     ) -> Result<Going, AllocError>
-        requires node { IsNode K.records svc.now P.past self.old }
-        requires up { self.old.up ≡ true }
+        requires may { MayCall K.records K.faults svc.now P.past self.old }
         requires held { self.old.offset < self.old.base }
-        requires past { Begins (known (here_of K.records svc.now P.past self.old).log) P.past }
-        requires count { K.faults self.old.keeper < 2 ^ 64 - 1 }
-        ensures ends { IfOk result (Ends K.records K.append_gives K.faults svc.now P.past (calls.drop_known self.old.id) (whole P.past self.old)
-            (whole P.past self.new) draft.old draft.new) }
-        ensures stuck { OnErr result (IsStuck K.records K.append_gives K.faults svc.now P.past (calls.drop_known self.old.id) (whole P.past self.old)
-            (whole P.past self.new) draft.old) }
-        ensures same { IsSame (whole P.past self.old) (whole P.past self.new) }
+        requires past { IsPastOf K.records svc.now P.past self.old }
+        ensures { Goes K.records K.append_gives K.faults svc.now P.past (calls.drop_known self.old.id) self.old self.new draft.old draft.new result }
     {
         let _service = svc.declarations();
         let node = self.id;
@@ -160,22 +152,14 @@ impl<K: Keeper> Node<K> {
         snapshot: &[u8],
         told: Option<State>,
     ) -> Result<Going, AllocError>
-        requires node { IsNode K.records svc.now P.past self.old }
-        requires up { self.old.up ≡ true }
+        requires may { MayCall K.records K.faults svc.now P.past self.old }
         requires there { IsInstance deltas }
         requires value { IsValue snapshot.now }
         requires told { IsToldState svc.now (length (knows P.past self.old)) (sent.Snapshot deltas snapshot.now) told }
         requires right { IsRight svc.now P.past (sent.Snapshot deltas snapshot.now) }
-        requires runs { RunsOn svc.now (calls.on_snapshot (service_of svc.now self.old.seed) self.old.id (first deltas P.past))
-            (so_far K.records svc.now P.past self.old draft.old) }
-        requires count { K.faults self.old.keeper < 2 ^ 64 - 1 }
-        ensures ends { IfOk result (Ends K.records K.append_gives K.faults svc.now P.past
-            (calls.on_snapshot (service_of svc.now self.old.seed) self.old.id (first deltas P.past)) (whole P.past self.old)
-            (whole P.past self.new) draft.old draft.new) }
-        ensures stuck { OnErr result (IsStuck K.records K.append_gives K.faults svc.now P.past
-            (calls.on_snapshot (service_of svc.now self.old.seed) self.old.id (first deltas P.past)) (whole P.past self.old)
-            (whole P.past self.new) draft.old) }
-        ensures same { IsSame (whole P.past self.old) (whole P.past self.new) }
+        requires runs { RunsOn svc.now (snapshot_call svc.now P.past self.old deltas) (so_far K.records svc.now P.past self.old draft.old) }
+        ensures goes { Goes K.records K.append_gives K.faults svc.now P.past (snapshot_call svc.now P.past self.old deltas) self.old self.new
+            draft.old draft.new result }
         ensures taken { KeepsAsTold (sent.Snapshot deltas snapshot.now) (K.records self.old.keeper) (K.records self.new.keeper) }
     {
         let _service = svc.declarations();
@@ -198,22 +182,15 @@ impl<K: Keeper> Node<K> {
         snapshot: &[u8],
         state: State,
     ) -> Result<Going, AllocError>
-        requires node { IsNode K.records svc.now P.past self.old }
-        requires up { self.old.up ≡ true }
+        requires may { MayCall K.records K.faults svc.now P.past self.old }
         requires more { length (knows P.past self.old) < deltas }
         requires there { IsInstance deltas }
         requires value { IsValue snapshot.now }
         requires spelled { state_in svc.now snapshot.now ≡ Ok state }
         requires leads { LeadTo svc.now P.past deltas state }
         requires fits { values_fit svc.now (first deltas P.past) ≡ true }
-        requires count { K.faults self.old.keeper < 2 ^ 64 - 1 }
-        ensures ends { IfOk result (Ends K.records K.append_gives K.faults svc.now P.past
-            (calls.on_snapshot (service_of svc.now self.old.seed) self.old.id (first deltas P.past)) (whole P.past self.old)
-            (whole P.past self.new) draft.old draft.new) }
-        ensures stuck { OnErr result (IsStuck K.records K.append_gives K.faults svc.now P.past
-            (calls.on_snapshot (service_of svc.now self.old.seed) self.old.id (first deltas P.past)) (whole P.past self.old)
-            (whole P.past self.new) draft.old) }
-        ensures same { IsSame (whole P.past self.old) (whole P.past self.new) }
+        ensures goes { Goes K.records K.append_gives K.faults svc.now P.past (snapshot_call svc.now P.past self.old deltas) self.old self.new
+            draft.old draft.new result }
         ensures taken { KeepsAsTold (sent.Snapshot deltas snapshot.now) (K.records self.old.keeper) (K.records self.new.keeper) }
     {
         let _service = svc.declarations();
@@ -262,8 +239,7 @@ impl<K: Keeper> Node<K> {
     // The node has taken over the state after so many values, and is a follower.
     fn tell_moved<P: Past>(&mut self, draft: &mut Draft, deltas: u32) -> Result<(), AllocError>
         ensures ok { OnOk result (whole P.past self.new ≡ leaving (whole P.past self.old)) }
-        ensures told { OnOk result (Tells draft.old draft.new (effect.Transferred self.old.id deltas ∷ followed self.old.id
-            (role_of self.old.acceptor self.old.proposer (is_some self.old.acting)))) }
+        ensures told { OnOk result (Tells draft.old draft.new (effect.Transferred self.old.id deltas ∷ followed self.old.id (role_in self.old))) }
         ensures err { OnErr result (whole P.past self.new ≡ (whole P.past self.old)) }
     {
         let node = self.id;

@@ -1,9 +1,9 @@
 //! How a node appends a record, and how a call that may append ends.
 
-ghost use Rattle.std.specs.Prelude.{◌≡◌, ◌<◌, ◌≤◌, ◌-◌, ◌^◌, length, IfOk, OnErr};
+ghost use Rattle.std.specs.Prelude.{◌<◌, ◌-◌};
 ghost use Rattle.rex_durable.specs.Spelling.{HasSpelling, record_bytes};
-ghost use Rattle.rex_node.specs.Parts.{IsSame, Stands, Writes, whole};
-ghost use Rattle.rex_node.specs.Going.{Appends, Finishes};
+ghost use Rattle.rex_node.specs.Parts.{CanFail, Writes, whole};
+ghost use Rattle.rex_node.specs.Going.{AppendsOr, Finishes};
 
 use crate::going::Going;
 use crate::node::Node;
@@ -18,7 +18,7 @@ use std::alloc::AllocError;
 impl<K: Keeper> Node<K> {
     /// Appends a record. Where the keeper fails the node is down.
     pub(crate) fn write<P: Past>(&mut self, rec: &Rec) -> Result<(), KeepFault>
-        requires count { K.faults self.old.keeper < 2 ^ 64 - 1 }
+        requires count { CanFail K.faults self.old }
         requires spelling { HasSpelling rec.now }
         ensures { Writes K.records K.faults K.append_gives (whole P.past self.old) (whole P.past self.new) (record_bytes rec.now) result }
     {
@@ -35,12 +35,9 @@ impl<K: Keeper> Node<K> {
         draft: &mut Draft,
         rec: &Rec,
     ) -> Result<Going, AllocError>
-        requires count { K.faults self.old.keeper < 2 ^ 64 - 1 }
+        requires count { CanFail K.faults self.old }
         requires spelling { HasSpelling rec.now }
-        ensures appends { IfOk result (Appends K.records K.faults K.append_gives (whole P.past self.old) (whole P.past self.new) draft.old draft.new
-            (record_bytes rec.now)) }
-        ensures stands { OnErr result (Stands K.records K.faults K.append_gives (whole P.past self.old) (whole P.past self.new)) }
-        ensures same { IsSame (whole P.past self.old) (whole P.past self.new) }
+        ensures { AppendsOr K.records K.faults K.append_gives P.past self.old self.new draft.old draft.new (record_bytes rec.now) result }
     {
         let node = self.id;
         draft.effects.push(Effect::Down { node })?;

@@ -1,4 +1,4 @@
-use Rattle.rex_node.proofs.Common.{Some, ap, sym, ◌∙◌, whole}
+use Rattle.rex_node.proofs.Common.{rules, Some, ap, sym, ◌∙◌, whole}
 use Rattle.rex_node.proofs.Written.{on_err}
 use Rattle.rex_node.proofs.Adopting.{known_as, learns_as, longer_as}
 use Rattle.rex_node.proofs.Majorities.{choose_down, choose_fits, choose_may, choose_stuck, chosen_ends, chosen_may, chosen_of, chosen_stuck}
@@ -6,57 +6,62 @@ use Rattle.rex_node.proofs.node.Node.choose.Goals as goal
 
 pub learn-requires-clause-may : goal.learn-requires-clause-may
 learn-requires-clause-may g c =
-    choose_may g.K.Keeper.append_gives g.K.Keeper.faults c.declarations-service.ensures.sound c.declarations-service.ensures.checked c.requires.node c.requires.up c.requires.from c.args.draft.now
-    (chosen_of c.requires.vote (sym c.in_ok-value.ensures ∙ c.in-Some.is ∙ ap (λ v. Some v) (sym c.as_slice.ensures))) c.requires.count
+    choose_may g.K.Keeper.append_gives g.K.Keeper.faults c.declarations-service.ensures.sound c.declarations-service.ensures.checked c.requires.may.node c.requires.may.up c.requires.from c.args.draft.now
+    (chosen_of c.requires.vote (sym c.in_ok-value.ensures ∙ c.in-Some.is ∙ ap (λ v. Some v) (sym c.as_slice.ensures))) c.requires.may.count
 
 pub learn-requires-clause-fits : goal.learn-requires-clause-fits
 learn-requires-clause-fits g c =
-    choose_fits g.K.Keeper.append_gives g.K.Keeper.faults c.declarations-service.ensures.sound c.declarations-service.ensures.checked c.requires.node c.requires.up c.requires.from c.args.draft.now
+    choose_fits g.K.Keeper.append_gives g.K.Keeper.faults c.declarations-service.ensures.sound c.declarations-service.ensures.checked c.requires.may.node c.requires.may.up c.requires.from c.args.draft.now
     (chosen_of c.requires.vote (sym c.in_ok-value.ensures ∙ c.in-Some.is ∙ ap (λ v. Some v) (sym c.as_slice.ensures))) c.requires.runs
 
-pub returns-in-Down-clause-ends : goal.returns-in-Down-clause-ends
-returns-in-Down-clause-ends g c =
-    choose_down _ _ c.declarations-service.ensures.sound c.declarations-service.ensures.checked c.requires.node c.requires.up c.requires.from c.args.draft.now
-    (chosen_of c.requires.vote (sym c.in_ok-value.ensures ∙ c.in-Some.is ∙ ap (λ v. Some v) (sym c.as_slice.ensures)))
-    c.learn.new.draft c.in_ok-learn.ensures.same
-    (learns_as _ _ _ _ _ (whole g.P.Past.past c.args.self.now) _ c.args.draft.now c.learn.new.draft _ _ c.in-Down.is c.in_ok-learn.ensures.learns)
+pub returns-in-Down : goal.returns-in-Down
+returns-in-Down g c = record {
+  ends = choose_down _ _ c.declarations-service.ensures.sound c.declarations-service.ensures.checked c.requires.may.node c.requires.may.up c.requires.from c.args.draft.now
+      (chosen_of c.requires.vote (sym c.in_ok-value.ensures ∙ c.in-Some.is ∙ ap (λ v. Some v) (sym c.as_slice.ensures)))
+      c.learn.new.draft c.in_ok-learn.ensures.same
+      (learns_as _ _ _ _ _ (whole g.P.Past.past c.args.self.now) _ c.args.draft.now c.learn.new.draft _ _ c.in-Down.is c.in_ok-learn.ensures.learns);
+  stuck = search rules;
+  same = search rules;
+}
 
 pub go_on-requires : goal.go_on-requires
 go_on-requires g c = record {
-  may = chosen_may g.K.Keeper.append_gives g.K.Keeper.faults c.declarations-service.ensures.sound c.declarations-service.ensures.checked c.requires.node c.requires.up c.requires.from c.args.draft.now
+  may = chosen_may g.K.Keeper.append_gives g.K.Keeper.faults c.declarations-service.ensures.sound c.declarations-service.ensures.checked c.requires.may.node c.requires.may.up c.requires.from c.args.draft.now
       (chosen_of c.requires.vote (sym c.in_ok-value.ensures ∙ c.in-Some.is ∙ ap (λ v. Some v) (sym c.as_slice.ensures)))
       c.learn.new.draft c.in_ok-learn.ensures.same
       (learns_as g.K.Keeper.records g.K.Keeper.append_gives g.K.Keeper.faults c.args.svc.now g.P.Past.past (whole g.P.Past.past c.args.self.now) (whole g.P.Past.past c.learn.new.self) c.args.draft.now c.learn.new.draft c.args.instance c.as_slice.result.now c.in-On.is c.in_ok-learn.ensures.learns)
       (known_as c.args.svc.now (whole g.P.Past.past c.args.self.now) c.args.instance c.as_slice.result.now c.in-On.is c.in_ok-learn.ensures.parts)
       (longer_as g.K.Keeper.records (whole g.P.Past.past c.args.self.now) (whole g.P.Past.past c.learn.new.self) c.in-On.is c.in_ok-learn.ensures.longer)
-      c.turns-turns.ensures c.requires.runs c.requires.count;
+      c.turns-turns.ensures c.requires.runs c.requires.may.count;
 }
 
-pub returns-clause-ends : goal.returns-clause-ends
-returns-clause-ends g c =
-    chosen_ends g.K.Keeper.append_gives g.K.Keeper.faults c.declarations-service.ensures.sound c.declarations-service.ensures.checked c.requires.node c.requires.up c.requires.from c.args.draft.now
-    (chosen_of c.requires.vote (sym c.in_ok-value.ensures ∙ c.in-Some.is ∙ ap (λ v. Some v) (sym c.as_slice.ensures)))
-    c.learn.new.draft c.in_ok-learn.ensures.same
-    (learns_as g.K.Keeper.records g.K.Keeper.append_gives g.K.Keeper.faults c.args.svc.now g.P.Past.past (whole g.P.Past.past c.args.self.now) (whole g.P.Past.past c.learn.new.self) c.args.draft.now c.learn.new.draft c.args.instance c.as_slice.result.now c.in-On.is c.in_ok-learn.ensures.learns)
-    (known_as c.args.svc.now (whole g.P.Past.past c.args.self.now) c.args.instance c.as_slice.result.now c.in-On.is c.in_ok-learn.ensures.parts)
-    (longer_as g.K.Keeper.records (whole g.P.Past.past c.args.self.now) (whole g.P.Past.past c.learn.new.self) c.in-On.is c.in_ok-learn.ensures.longer)
-    c.turns-turns.ensures
-    (whole g.P.Past.past c.go_on.new.self) c.go_on.new.draft c.go_on.result c.go_on.ensures.ends
+pub returns : goal.returns
+returns g c = record {
+  ends = chosen_ends g.K.Keeper.append_gives g.K.Keeper.faults c.declarations-service.ensures.sound c.declarations-service.ensures.checked c.requires.may.node c.requires.may.up c.requires.from c.args.draft.now
+      (chosen_of c.requires.vote (sym c.in_ok-value.ensures ∙ c.in-Some.is ∙ ap (λ v. Some v) (sym c.as_slice.ensures)))
+      c.learn.new.draft c.in_ok-learn.ensures.same
+      (learns_as g.K.Keeper.records g.K.Keeper.append_gives g.K.Keeper.faults c.args.svc.now g.P.Past.past (whole g.P.Past.past c.args.self.now) (whole g.P.Past.past c.learn.new.self) c.args.draft.now c.learn.new.draft c.args.instance c.as_slice.result.now c.in-On.is c.in_ok-learn.ensures.learns)
+      (known_as c.args.svc.now (whole g.P.Past.past c.args.self.now) c.args.instance c.as_slice.result.now c.in-On.is c.in_ok-learn.ensures.parts)
+      (longer_as g.K.Keeper.records (whole g.P.Past.past c.args.self.now) (whole g.P.Past.past c.learn.new.self) c.in-On.is c.in_ok-learn.ensures.longer)
+      c.turns-turns.ensures
+      (whole g.P.Past.past c.go_on.new.self) c.go_on.new.draft c.go_on.result c.go_on.ensures.ends;
+  stuck = chosen_stuck g.K.Keeper.append_gives g.K.Keeper.faults c.declarations-service.ensures.sound c.declarations-service.ensures.checked c.requires.may.node c.requires.may.up c.requires.from c.args.draft.now
+      (chosen_of c.requires.vote (sym c.in_ok-value.ensures ∙ c.in-Some.is ∙ ap (λ v. Some v) (sym c.as_slice.ensures)))
+      c.learn.new.draft c.in_ok-learn.ensures.same
+      (learns_as g.K.Keeper.records g.K.Keeper.append_gives g.K.Keeper.faults c.args.svc.now g.P.Past.past (whole g.P.Past.past c.args.self.now) (whole g.P.Past.past c.learn.new.self) c.args.draft.now c.learn.new.draft c.args.instance c.as_slice.result.now c.in-On.is c.in_ok-learn.ensures.learns)
+      (known_as c.args.svc.now (whole g.P.Past.past c.args.self.now) c.args.instance c.as_slice.result.now c.in-On.is c.in_ok-learn.ensures.parts)
+      (longer_as g.K.Keeper.records (whole g.P.Past.past c.args.self.now) (whole g.P.Past.past c.learn.new.self) c.in-On.is c.in_ok-learn.ensures.longer)
+      c.turns-turns.ensures
+      (whole g.P.Past.past c.go_on.new.self) c.go_on.result c.go_on.ensures.stuck;
+  same = search rules;
+}
 
-pub returns-clause-stuck : goal.returns-clause-stuck
-returns-clause-stuck g c =
-    chosen_stuck g.K.Keeper.append_gives g.K.Keeper.faults c.declarations-service.ensures.sound c.declarations-service.ensures.checked c.requires.node c.requires.up c.requires.from c.args.draft.now
-    (chosen_of c.requires.vote (sym c.in_ok-value.ensures ∙ c.in-Some.is ∙ ap (λ v. Some v) (sym c.as_slice.ensures)))
-    c.learn.new.draft c.in_ok-learn.ensures.same
-    (learns_as g.K.Keeper.records g.K.Keeper.append_gives g.K.Keeper.faults c.args.svc.now g.P.Past.past (whole g.P.Past.past c.args.self.now) (whole g.P.Past.past c.learn.new.self) c.args.draft.now c.learn.new.draft c.args.instance c.as_slice.result.now c.in-On.is c.in_ok-learn.ensures.learns)
-    (known_as c.args.svc.now (whole g.P.Past.past c.args.self.now) c.args.instance c.as_slice.result.now c.in-On.is c.in_ok-learn.ensures.parts)
-    (longer_as g.K.Keeper.records (whole g.P.Past.past c.args.self.now) (whole g.P.Past.past c.learn.new.self) c.in-On.is c.in_ok-learn.ensures.longer)
-    c.turns-turns.ensures
-    (whole g.P.Past.past c.go_on.new.self) c.go_on.result c.go_on.ensures.stuck
-
-pub returns-in_err-learn-clause-stuck : goal.returns-in_err-learn-clause-stuck
-returns-in_err-learn-clause-stuck g c =
-    on_err _
-    (choose_stuck _ _ c.declarations-service.ensures.sound c.declarations-service.ensures.checked c.requires.node c.requires.up c.requires.from _
-    (chosen_of c.requires.vote (sym c.in_ok-value.ensures ∙ c.in-Some.is ∙ ap (λ v. Some v) (sym c.as_slice.ensures)))
-    c.in_err-learn.ensures.stuck)
+pub returns-in_err-learn : goal.returns-in_err-learn
+returns-in_err-learn g c = record {
+  ends = search rules;
+  stuck = on_err _
+      (choose_stuck _ _ c.declarations-service.ensures.sound c.declarations-service.ensures.checked c.requires.may.node c.requires.may.up c.requires.from _
+      (chosen_of c.requires.vote (sym c.in_ok-value.ensures ∙ c.in-Some.is ∙ ap (λ v. Some v) (sym c.as_slice.ensures)))
+      c.in_err-learn.ensures.stuck);
+  same = search rules;
+}

@@ -1,4 +1,4 @@
-use Rattle.rex_node.proofs.Common.{length, ap, ◌∙◌, refl, option_copied, cut, begin, counts_for, ProposesPiece, ProposesPieceShort, Ends, IsStuck, here_of, whole, armed_with}
+use Rattle.rex_node.proofs.Common.{length, ap, ◌∙◌, refl, option_copied, cut, begin, counts_for, ProposesPiece, ProposesPieceShort, Ends, IsStuck, here_of, whole, armed_with, rules}
 use Rattle.rex_node.proofs.Ending.{HasCome, told, down, left, kept}
 use Rattle.rex_node.proofs.OwnPieces.{cut_ends, cut_short, if_then}
 use Rattle.rex_node.proofs.ProposedCuts.{on_error}
@@ -40,26 +40,17 @@ come g c = record {
   finishes = c.finish.ensures;
 }
 
-pub returns-clause-told : goal.returns-clause-told
-returns-clause-told g c =
-    told (come g c)
-
-pub returns-clause-down : goal.returns-clause-down
-returns-clause-down g c =
-    down (come g c)
-    (cut_well c.args.svc.now c.args.self.now.seed c.args.self.now.nodes c.args.self.now.id (counts_for c.args.svc.now (here_of g.K.Keeper.records c.args.svc.now g.P.Past.past (whole g.P.Past.past c.args.self.now)) (option_copied c.args.limits)) (begin (here_of g.K.Keeper.records c.args.svc.now g.P.Past.past (whole g.P.Past.past c.args.self.now))) (record { armed = refl; quiet = λ id h. absurd h })).quiet
-
-pub returns-clause-left : goal.returns-clause-left
-returns-clause-left g c =
-    left _ _ (come g c)
-
-pub returns-clause-kept : goal.returns-clause-kept
-returns-clause-kept g c =
-    kept (come g c)
-
-pub returns-clause-tells : goal.returns-clause-tells
-returns-clause-tells g c =
-    let counts = counts_for c.args.svc.now (here_of g.K.Keeper.records c.args.svc.now g.P.Past.past (whole g.P.Past.past c.args.self.now)) (option_copied c.args.limits) in
-    let x = c.args.self.now in
-    steps_tell g.K.Keeper.records g.K.Keeper.append_gives g.K.Keeper.faults c.args.svc.now g.P.Past.past (cut c.args.svc.now x.seed x.nodes x.id counts) (whole g.P.Past.past x) (whole g.P.Past.past c.finish.new.self) c.finish.result
-    (λ f. cut_tells_none c.args.svc.now x.seed x.nodes x.id counts (armed_with f (begin (here_of g.K.Keeper.records c.args.svc.now g.P.Past.past (whole g.P.Past.past x)))) tt) (returns-clause-told g c)
+pub returns : goal.returns
+returns g c = record {
+  refused = search rules;
+  told = told (come g c);
+  tells = let counts = counts_for c.args.svc.now (here_of g.K.Keeper.records c.args.svc.now g.P.Past.past (whole g.P.Past.past c.args.self.now)) (option_copied c.args.limits) in
+      let x = c.args.self.now in
+      steps_tell g.K.Keeper.records g.K.Keeper.append_gives g.K.Keeper.faults c.args.svc.now g.P.Past.past (cut c.args.svc.now x.seed x.nodes x.id counts) (whole g.P.Past.past x) (whole g.P.Past.past c.finish.new.self) c.finish.result
+      (λ f. cut_tells_none c.args.svc.now x.seed x.nodes x.id counts (armed_with f (begin (here_of g.K.Keeper.records c.args.svc.now g.P.Past.past (whole g.P.Past.past x)))) tt) (told (come g c));
+  down = down (come g c)
+      (cut_well c.args.svc.now c.args.self.now.seed c.args.self.now.nodes c.args.self.now.id (counts_for c.args.svc.now (here_of g.K.Keeper.records c.args.svc.now g.P.Past.past (whole g.P.Past.past c.args.self.now)) (option_copied c.args.limits)) (begin (here_of g.K.Keeper.records c.args.svc.now g.P.Past.past (whole g.P.Past.past c.args.self.now))) (record { armed = refl; quiet = λ id h. absurd h })).quiet;
+  left = left _ _ (come g c);
+  same = search rules;
+  kept = kept (come g c);
+}

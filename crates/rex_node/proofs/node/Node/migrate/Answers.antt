@@ -1,4 +1,4 @@
-use Rattle.rex_node.proofs.Common.{[], ◌∷◌, Err, sym, ap, subst, ◌∙◌, IsSound, IsLimited, Two, record_bytes, IsCheckpoint, whole}
+use Rattle.rex_node.proofs.Common.{rules, [], ◌∷◌, Err, sym, ap, subst, ◌∙◌, IsSound, IsLimited, Two, record_bytes, IsCheckpoint, whole}
 use Rattle.rex_report.specs.declared.effect.Effect.TheVariants as effect
 use Rattle.rex_node.specs.Checkpointing.{MigratesOr}
 use Rattle.rex_node.proofs.Ending.{stands_own}
@@ -20,40 +20,42 @@ pub save_again-requires-clause-spelling : goal.save_again-requires-clause-spelli
 save_again-requires-clause-spelling g c =
     spelling _ g.K.Keeper.append_gives g.K.Keeper.faults _ _ _ c.requires.node (sym c.migrate_refusal.ensures ∙ c.in_default.is) _ (subst (λ x. IsCheckpoint c.args.svc.now Two x.base x.start c.in_ok-rec.rec) c.self.view_is c.in_ok-rec.ensures)
 
-pub returns-in-Ok-clause-told : goal.returns-in-Ok-clause-told
-returns-in-Ok-clause-told g c =
-    migrated_does _ _ _ _ _ _ c.requires.node (sym c.migrate_refusal.ensures ∙ c.in_default.is) _ (subst (λ x. IsCheckpoint c.args.svc.now Two x.base x.start c.in_ok-rec.rec) c.self.view_is c.in_ok-rec.ensures)
-    _ (record { effects = c.in_ok-migrated.migrated; sends = c.new-sends.result }) c.new-sends.ensures (subst (MigratesOr g.K.Keeper.records g.K.Keeper.faults g.K.Keeper.append_gives (whole g.P.Past.past c.args.self.now) (whole g.P.Past.past c.save_again.new.self) (record_bytes c.in_ok-rec.rec)) c.in-Ok.is c.save_again.ensures) (c.in_ok-migrated.ensures ∙ ap (λ x. effect.Migrated x.id x.base ∷ []) c.self.view_is)
+pub returns-in-Ok-clause-performs : goal.returns-in-Ok-clause-performs
+returns-in-Ok-clause-performs g c = record {
+  refused = search rules;
+  told = migrated_does _ _ _ _ _ _ c.requires.node (sym c.migrate_refusal.ensures ∙ c.in_default.is) _ (subst (λ x. IsCheckpoint c.args.svc.now Two x.base x.start c.in_ok-rec.rec) c.self.view_is c.in_ok-rec.ensures)
+      _ (record { effects = c.in_ok-migrated.migrated; sends = c.new-sends.result }) c.new-sends.ensures (subst (MigratesOr g.K.Keeper.records g.K.Keeper.faults g.K.Keeper.append_gives (whole g.P.Past.past c.args.self.now) (whole g.P.Past.past c.save_again.new.self) (record_bytes c.in_ok-rec.rec)) c.in-Ok.is c.save_again.ensures) (c.in_ok-migrated.ensures ∙ ap (λ x. effect.Migrated x.id x.base ∷ []) c.self.view_is);
+  down = migrated_down _ _ _ _ _ _ c.requires.node (sym c.migrate_refusal.ensures ∙ c.in_default.is) _ (subst (λ x. IsCheckpoint c.args.svc.now Two x.base x.start c.in_ok-rec.rec) c.self.view_is c.in_ok-rec.ensures)
+      _ (record { effects = c.in_ok-migrated.migrated; sends = c.new-sends.result }) c.new-sends.ensures (subst (MigratesOr g.K.Keeper.records g.K.Keeper.faults g.K.Keeper.append_gives (whole g.P.Past.past c.args.self.now) (whole g.P.Past.past c.save_again.new.self) (record_bytes c.in_ok-rec.rec)) c.in-Ok.is c.save_again.ensures) (c.in_ok-migrated.ensures ∙ ap (λ x. effect.Migrated x.id x.base ∷ []) c.self.view_is);
+  left = search rules;
+  same = search rules;
+  kept = migrated_stays _ _ _ _ _ _ c.requires.node (sym c.migrate_refusal.ensures ∙ c.in_default.is) _ (subst (λ x. IsCheckpoint c.args.svc.now Two x.base x.start c.in_ok-rec.rec) c.self.view_is c.in_ok-rec.ensures)
+      _ (record { effects = c.in_ok-migrated.migrated; sends = c.new-sends.result }) c.new-sends.ensures (subst (MigratesOr g.K.Keeper.records g.K.Keeper.faults g.K.Keeper.append_gives (whole g.P.Past.past c.args.self.now) (whole g.P.Past.past c.save_again.new.self) (record_bytes c.in_ok-rec.rec)) c.in-Ok.is c.save_again.ensures) (c.in_ok-migrated.ensures ∙ ap (λ x. effect.Migrated x.id x.base ∷ []) c.self.view_is);
+}
 
-pub returns-in-Ok-clause-down : goal.returns-in-Ok-clause-down
-returns-in-Ok-clause-down g c =
-    migrated_down _ _ _ _ _ _ c.requires.node (sym c.migrate_refusal.ensures ∙ c.in_default.is) _ (subst (λ x. IsCheckpoint c.args.svc.now Two x.base x.start c.in_ok-rec.rec) c.self.view_is c.in_ok-rec.ensures)
-    _ (record { effects = c.in_ok-migrated.migrated; sends = c.new-sends.result }) c.new-sends.ensures (subst (MigratesOr g.K.Keeper.records g.K.Keeper.faults g.K.Keeper.append_gives (whole g.P.Past.past c.args.self.now) (whole g.P.Past.past c.save_again.new.self) (record_bytes c.in_ok-rec.rec)) c.in-Ok.is c.save_again.ensures) (c.in_ok-migrated.ensures ∙ ap (λ x. effect.Migrated x.id x.base ∷ []) c.self.view_is)
+pub returns-in-Err-Failed-clause-performs : goal.returns-in-Err-Failed-clause-performs
+returns-in-Err-Failed-clause-performs g c = record {
+  refused = search rules;
+  told = fell_does _ _ _ _ _ _ c.requires.node (sym c.migrate_refusal.ensures ∙ c.in_default.is) _ (subst (λ x. IsCheckpoint c.args.svc.now Two x.base x.start c.in_ok-rec.rec) c.self.view_is c.in_ok-rec.ensures)
+      _ (record { effects = c.in_ok-down.down; sends = c.new-sends.result }) c.new-sends.ensures (subst (MigratesOr g.K.Keeper.records g.K.Keeper.faults g.K.Keeper.append_gives (whole g.P.Past.past c.args.self.now) (whole g.P.Past.past c.save_again.new.self) (record_bytes c.in_ok-rec.rec)) (c.in-Err-Failed.is ∙ ap Err c.in-Err-Failed.field-0-is) c.save_again.ensures) (c.in_ok-down.ensures ∙ ap (λ x. effect.Down x.id ∷ []) c.self.view_is);
+  down = fell_down _ _ _ _ _ _ c.requires.node (sym c.migrate_refusal.ensures ∙ c.in_default.is) _ (subst (λ x. IsCheckpoint c.args.svc.now Two x.base x.start c.in_ok-rec.rec) c.self.view_is c.in_ok-rec.ensures)
+      _ (record { effects = c.in_ok-down.down; sends = c.new-sends.result }) c.new-sends.ensures (subst (MigratesOr g.K.Keeper.records g.K.Keeper.faults g.K.Keeper.append_gives (whole g.P.Past.past c.args.self.now) (whole g.P.Past.past c.save_again.new.self) (record_bytes c.in_ok-rec.rec)) (c.in-Err-Failed.is ∙ ap Err c.in-Err-Failed.field-0-is) c.save_again.ensures) (c.in_ok-down.ensures ∙ ap (λ x. effect.Down x.id ∷ []) c.self.view_is);
+  left = search rules;
+  same = search rules;
+  kept = fell_stays _ _ _ _ _ _ c.requires.node (sym c.migrate_refusal.ensures ∙ c.in_default.is) _ (subst (λ x. IsCheckpoint c.args.svc.now Two x.base x.start c.in_ok-rec.rec) c.self.view_is c.in_ok-rec.ensures)
+      _ (record { effects = c.in_ok-down.down; sends = c.new-sends.result }) c.new-sends.ensures (subst (MigratesOr g.K.Keeper.records g.K.Keeper.faults g.K.Keeper.append_gives (whole g.P.Past.past c.args.self.now) (whole g.P.Past.past c.save_again.new.self) (record_bytes c.in_ok-rec.rec)) (c.in-Err-Failed.is ∙ ap Err c.in-Err-Failed.field-0-is) c.save_again.ensures) (c.in_ok-down.ensures ∙ ap (λ x. effect.Down x.id ∷ []) c.self.view_is);
+}
 
-pub returns-in-Ok-clause-kept : goal.returns-in-Ok-clause-kept
-returns-in-Ok-clause-kept g c =
-    migrated_stays _ _ _ _ _ _ c.requires.node (sym c.migrate_refusal.ensures ∙ c.in_default.is) _ (subst (λ x. IsCheckpoint c.args.svc.now Two x.base x.start c.in_ok-rec.rec) c.self.view_is c.in_ok-rec.ensures)
-    _ (record { effects = c.in_ok-migrated.migrated; sends = c.new-sends.result }) c.new-sends.ensures (subst (MigratesOr g.K.Keeper.records g.K.Keeper.faults g.K.Keeper.append_gives (whole g.P.Past.past c.args.self.now) (whole g.P.Past.past c.save_again.new.self) (record_bytes c.in_ok-rec.rec)) c.in-Ok.is c.save_again.ensures) (c.in_ok-migrated.ensures ∙ ap (λ x. effect.Migrated x.id x.base ∷ []) c.self.view_is)
-
-pub returns-in-Err-Failed-clause-told : goal.returns-in-Err-Failed-clause-told
-returns-in-Err-Failed-clause-told g c =
-    fell_does _ _ _ _ _ _ c.requires.node (sym c.migrate_refusal.ensures ∙ c.in_default.is) _ (subst (λ x. IsCheckpoint c.args.svc.now Two x.base x.start c.in_ok-rec.rec) c.self.view_is c.in_ok-rec.ensures)
-    _ (record { effects = c.in_ok-down.down; sends = c.new-sends.result }) c.new-sends.ensures (subst (MigratesOr g.K.Keeper.records g.K.Keeper.faults g.K.Keeper.append_gives (whole g.P.Past.past c.args.self.now) (whole g.P.Past.past c.save_again.new.self) (record_bytes c.in_ok-rec.rec)) (c.in-Err-Failed.is ∙ ap Err c.in-Err-Failed.field-0-is) c.save_again.ensures) (c.in_ok-down.ensures ∙ ap (λ x. effect.Down x.id ∷ []) c.self.view_is)
-
-pub returns-in-Err-Failed-clause-down : goal.returns-in-Err-Failed-clause-down
-returns-in-Err-Failed-clause-down g c =
-    fell_down _ _ _ _ _ _ c.requires.node (sym c.migrate_refusal.ensures ∙ c.in_default.is) _ (subst (λ x. IsCheckpoint c.args.svc.now Two x.base x.start c.in_ok-rec.rec) c.self.view_is c.in_ok-rec.ensures)
-    _ (record { effects = c.in_ok-down.down; sends = c.new-sends.result }) c.new-sends.ensures (subst (MigratesOr g.K.Keeper.records g.K.Keeper.faults g.K.Keeper.append_gives (whole g.P.Past.past c.args.self.now) (whole g.P.Past.past c.save_again.new.self) (record_bytes c.in_ok-rec.rec)) (c.in-Err-Failed.is ∙ ap Err c.in-Err-Failed.field-0-is) c.save_again.ensures) (c.in_ok-down.ensures ∙ ap (λ x. effect.Down x.id ∷ []) c.self.view_is)
-
-pub returns-in-Err-Failed-clause-kept : goal.returns-in-Err-Failed-clause-kept
-returns-in-Err-Failed-clause-kept g c =
-    fell_stays _ _ _ _ _ _ c.requires.node (sym c.migrate_refusal.ensures ∙ c.in_default.is) _ (subst (λ x. IsCheckpoint c.args.svc.now Two x.base x.start c.in_ok-rec.rec) c.self.view_is c.in_ok-rec.ensures)
-    _ (record { effects = c.in_ok-down.down; sends = c.new-sends.result }) c.new-sends.ensures (subst (MigratesOr g.K.Keeper.records g.K.Keeper.faults g.K.Keeper.append_gives (whole g.P.Past.past c.args.self.now) (whole g.P.Past.past c.save_again.new.self) (record_bytes c.in_ok-rec.rec)) (c.in-Err-Failed.is ∙ ap Err c.in-Err-Failed.field-0-is) c.save_again.ensures) (c.in_ok-down.ensures ∙ ap (λ x. effect.Down x.id ∷ []) c.self.view_is)
-
-pub returns-clause-left : goal.returns-clause-left
-returns-clause-left g c =
-    stands_own _
-    (subst (MigratesOr g.K.Keeper.records g.K.Keeper.faults g.K.Keeper.append_gives (whole g.P.Past.past c.args.self.now) (whole g.P.Past.past c.save_again.new.self) (record_bytes c.in_ok-rec.rec)) (c.in-Err-OutOfMemory.is ∙ ap Err c.in-Err-OutOfMemory.field-0-is) c.save_again.ensures)
+pub returns-clause-performs : goal.returns-clause-performs
+returns-clause-performs g c = record {
+  refused = search rules;
+  told = search rules;
+  down = search rules;
+  left = stands_own _
+      (subst (MigratesOr g.K.Keeper.records g.K.Keeper.faults g.K.Keeper.append_gives (whole g.P.Past.past c.args.self.now) (whole g.P.Past.past c.save_again.new.self) (record_bytes c.in_ok-rec.rec)) (c.in-Err-OutOfMemory.is ∙ ap Err c.in-Err-OutOfMemory.field-0-is) c.save_again.ensures);
+  same = search rules;
+  kept = search rules;
+}
 
 pub returns-in-Some-clause-again : goal.returns-in-Some-clause-again
 returns-in-Some-clause-again g c = spells_itself

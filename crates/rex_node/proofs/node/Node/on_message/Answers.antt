@@ -1,4 +1,4 @@
-use Rattle.rex_node.proofs.Common.{◌≡◌, length, true, refl, sym, ap, subst, ◌∙◌, receive, CallHere, known, service_of, values_fit, content_in, whole}
+use Rattle.rex_node.proofs.Common.{◌≡◌, length, true, refl, sym, ap, subst, ◌∙◌, receive, CallHere, known, service_of, values_fit, content_in, whole, rules}
 use Rattle.rex_node.proofs.Ending.{HasCome, begins, told, down, left, kept}
 use Rattle.rex_node.proofs.Executing.{up_of}
 use Rattle.rex_cluster.proofs.CallLaws.{replies_quiet}
@@ -19,9 +19,9 @@ come g c = record {
   many = c.len-before.ensures ∙ ap (λ n. length (g.K.Keeper.records n.keeper)) c.self.view_is;
   effects = c.new-draft.ensures.effects;
   sends = c.new-draft.ensures.sends;
-  ends = c.receive-end.ensures.ends;
-  stuck = c.receive-end.ensures.stuck;
-  same = c.receive-end.ensures.same;
+  ends = c.receive-end.ensures.goes.ends;
+  stuck = c.receive-end.ensures.goes.stuck;
+  same = c.receive-end.ensures.goes.same;
   finishes = c.finish.ensures;
 }
 
@@ -31,19 +31,17 @@ receive-end-requires-clause-runs g c =
     (sym (begins g.K.Keeper.records c.args.svc.now g.P.Past.past (whole g.P.Past.past c.args.self.now) c.new-draft.result c.new-draft.ensures.effects c.new-draft.ensures.sends))
     c.requires.runs
 
-pub returns-clause-told : goal.returns-clause-told
-returns-clause-told g c = told (come g c)
-
-pub returns-clause-down : goal.returns-clause-down
-returns-clause-down g c =
-    down (come g c)
-    (receive_well c.args.self.now.nodes (service_of c.args.svc.now c.args.self.now.seed) c.args.self.now.id (replies_quiet c.args.svc.now c.args.self.now.seed) c.args.message.now.from (content_in g.P.Past.past c.args.message.now.content) _ (record { armed = refl; quiet = λ id h. h })).quiet
-
-pub returns-clause-left : goal.returns-clause-left
-returns-clause-left g c = left _ _ (come g c)
-
-pub returns-clause-kept : goal.returns-clause-kept
-returns-clause-kept g c = kept (come g c)
+pub returns-clause-performs : goal.returns-clause-performs
+returns-clause-performs g c = record {
+  refused = search rules;
+  told = told (come g c);
+  tells = search rules;
+  down = down (come g c)
+      (receive_well c.args.self.now.nodes (service_of c.args.svc.now c.args.self.now.seed) c.args.self.now.id (replies_quiet c.args.svc.now c.args.self.now.seed) c.args.message.now.from (content_in g.P.Past.past c.args.message.now.content) _ (record { armed = refl; quiet = λ id h. h })).quiet;
+  left = left _ _ (come g c);
+  same = search rules;
+  kept = kept (come g c);
+}
 
 pub returns-in-Some-clause-taken : goal.returns-in-Some-clause-taken
 returns-in-Some-clause-taken g c = none_kept _ _

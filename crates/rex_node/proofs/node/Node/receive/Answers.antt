@@ -1,4 +1,4 @@
-use Rattle.rex_node.proofs.Common.{subst, sym, map, receive, Promise, Voted, Chose, Nack, Snapshot, service_of, first, proposal_in, content_in, armed_with, IsStuck, so_far, whole}
+use Rattle.rex_node.proofs.Common.{rules, subst, sym, map, receive, Promise, Voted, Chose, Nack, Snapshot, service_of, first, proposal_in, content_in, armed_with, IsStuck, so_far, whole}
 use Rattle.std.proofs.Common.{OnErr}
 use Rattle.rex_cluster.proofs.TellNone.{receive_tells_none}
 use Rattle.rex_node.proofs.Told.{nothing_tells, ok_tells}
@@ -42,11 +42,14 @@ returns-in-Snapshot-clause-tells g c none =
     let sv = service_of c.args.svc.now x.seed in
     ok_tells g.K.Keeper.records g.K.Keeper.append_gives g.K.Keeper.faults c.args.svc.now g.P.Past.past (receive x.nodes sv x.id c.args.message.now.from (Snapshot (first c.in-Snapshot.deltas g.P.Past.past))) (whole g.P.Past.past x) (whole g.P.Past.past c.on_snapshot.new.self) c.args.draft.now c.on_snapshot.new.draft c.on_snapshot.result
     (λ f. receive_tells_none x.nodes sv x.id c.args.message.now.from (Snapshot (first c.in-Snapshot.deltas g.P.Past.past)) tt (armed_with f (so_far g.K.Keeper.records c.args.svc.now g.P.Past.past (whole g.P.Past.past x) c.args.draft.now)) (nothing_tells g.K.Keeper.records c.args.svc.now g.P.Past.past (whole g.P.Past.past x) c.args.draft.now none f))
-    c.on_snapshot.ensures.ends
+    c.on_snapshot.ensures.goes.ends
 
-pub returns-in-Snapshot-clause-stuck : goal.returns-in-Snapshot-clause-stuck
-returns-in-Snapshot-clause-stuck g c =
-    let x = c.args.self.now in
-    subst
-    (λ content. OnErr c.on_snapshot.result (IsStuck g.K.Keeper.records g.K.Keeper.append_gives g.K.Keeper.faults c.args.svc.now g.P.Past.past (receive x.nodes (service_of c.args.svc.now x.seed) x.id c.args.message.now.from (content_in g.P.Past.past content)) (whole g.P.Past.past x) (whole g.P.Past.past c.on_snapshot.new.self) c.args.draft.now))
-    (sym c.in-Snapshot.is) c.on_snapshot.ensures.stuck
+pub returns-in-Snapshot-clause-goes : goal.returns-in-Snapshot-clause-goes
+returns-in-Snapshot-clause-goes g c = record {
+  ends = search rules;
+  stuck = let x = c.args.self.now in
+      subst
+      (λ content. OnErr c.on_snapshot.result (IsStuck g.K.Keeper.records g.K.Keeper.append_gives g.K.Keeper.faults c.args.svc.now g.P.Past.past (receive x.nodes (service_of c.args.svc.now x.seed) x.id c.args.message.now.from (content_in g.P.Past.past content)) (whole g.P.Past.past x) (whole g.P.Past.past c.on_snapshot.new.self) c.args.draft.now))
+      (sym c.in-Snapshot.is) c.on_snapshot.ensures.goes.stuck;
+  same = search rules;
+}
