@@ -1,13 +1,13 @@
 -- What stays of a node in memory, and what changes, where one record more is kept.
-use Rattle.rex_node.proofs.Common.{◌≡◌, ℕ, suc, ◌<◌, ◌≤◌, Bool, true, false, List, [], ◌∷◌, ◌++◌, length, take, Option, Some, None, refl, sym, ap, subst, ◌∙◌, arith, le_trans, map, max, is_some, if◌then◌else◌, take-append-le, All-append, All-cons, All-filter, Kept, IsValue, promising, accepting, Declarations, StateValue, start_of, run, KeptRec, HasSpelling, IsDue, record_bytes, Effect, Answer, Rec, placed, promise, last_accepted, accepted, offset, known, base, has_old_base, Promised, Accepted, Known, AreRising, RoleFits, Message, Failure, down_node, append, logged, Here, CallHere, Value, trace_of, values_fit, length_push, accepted_rising, Draft, On, Down, message_in, armed_with, Leads, Fell, Appends, so_far, log_of, rec_of, proposal_in, standing_in, failed_records, fallen, NodeValue, IsActing, IsProposer, HasStamps, IsUp, AreShort, here_of, state_of, is_stated, log_then}
+use Rattle.rex_node.proofs.Common.{◌≡◌, ℕ, suc, ◌<◌, ◌≤◌, Bool, true, false, List, [], ◌∷◌, ◌++◌, length, take, Option, Some, None, refl, sym, ap, subst, ◌∙◌, arith, le_trans, map, max, is_some, if◌then◌else◌, take-append-le, All-append, All-cons, All-filter, Kept, IsValue, promising, accepting, Declarations, StateValue, start_of, run, KeptRec, HasSpelling, IsDue, record_bytes, Effect, Answer, Rec, placed, promise, last_accepted, accepted, offset, known, base, has_old_base, Promised, Accepted, Known, AreRising, RoleFits, Message, Failure, down_node, append, logged, Here, CallHere, Value, trace_of, values_fit, length_push, accepted_rising, Draft, On, Down, message_in, armed_with, Leads, Fell, Appends, so_far, log_of, rec_of, proposal_in, standing_in, failed_records, fallen, NodeValue, IsActing, IsProposer, HasStamps, IsUp, AreShort, here_of, state_of, is_stated, log_then, BreaksOff, LosesFirst, inl, ProposerValue, Proposes, ActingValue, ActsFor, LeadFits, lead_of, open_of, role_of}
 use Rattle.std.proofs.Math.Nat.{max_comm}
 use Rattle.rex_ballot.specs.Ballot as ballots
 use Rattle.rex_ballot.specs.Proposals.{AreRising as IsRising, above, below}
-use Rattle.rex_report.specs.declared.effect.Effect.TheVariants as effect
 use Rattle.rex_cluster.specs.Ranges.{IsBallot, IsInstance, LogFits}
 use Rattle.rex_cluster.proofs.Ranged.{log_promised, log_accepted, log_known}
 use Rattle.rex_node.proofs.GoingLemmas.{leads_append, fell_append}
 use Rattle.rex_log.proofs.Accepting.{placed_kept, placed_from, rising_zero}
+use Rattle.rex_node.proofs.Stuck.{breaks_here}
 
 -- the ranges of a node's numbers are the model's
 pub ballot_fits : {b : ℕ} → ballots.IsBallot b → IsBallot b
@@ -101,6 +101,38 @@ module _ {K : Type 0} (records : K → List (List ℕ)) (service : Declarations)
     role = subst (λ vs. RoleFits (length vs) (here_of records service past x).role) (sym u.known) u.numbers.role;
   }
 
+-- the numbers of what a node leads with are in their ranges
+pub lead_fits_of : {K : Type 0} (records : K → List (List ℕ)) {service : Declarations} (past : List Value) {x : NodeValue K} → IsUp service x (here_of records service past x) → {p : ProposerValue} → x.proposer ≡ Some p → LeadFits (length x.known) (lead_of x.acceptor p (is_some x.acting))
+lead_fits_of records {service} past {x} u e = subst (λ o. RoleFits (length x.known) (role_of x.acceptor o (is_some x.acting))) e (beside_of records service past x u).role
+
+-- a node with the same of these parts has them of its records too
+pub logged_as : {K : Type 0} {service : Declarations} {x y : NodeValue K} {log : List (Rec Value StateValue)} → y ≡ record y { acceptor = x.acceptor; offset = x.offset; known = x.known; base = x.base; old_base = x.old_base; start = x.start } → IsLogged service x log → IsLogged service y log
+logged_as {service} {log} same l =
+    subst (λ n. IsLogged service n log) (sym same)
+    (record { promised = l.promised; accepted = l.accepted; offset_is = l.offset_is; low = l.low; known = l.known; base = l.base; old_base = l.old_base; few = l.few; start = l.start; short = l.short; fits = l.fits; numbers = l.numbers })
+
+-- a node is up with another proposer, where that may propose so
+pub up_proposing : {K : Type 0} (records : K → List (List ℕ)) {service : Declarations} (past : List Value) {x : NodeValue K} → IsUp service x (here_of records service past x) → {p q : ProposerValue} → x.proposer ≡ Some p → p.open_instance ≡ q.open_instance
+    → Proposes x.nodes x.id x.acceptor q → LeadFits (length x.known) (lead_of x.acceptor q (is_some x.acting)) → IsUp service (record x { proposer = Some q }) (here_of records service past (record x { proposer = Some q }))
+up_proposing records {service} past {x} u {p} {q} e same h fits =
+    let b = beside_of records service past x u in
+    up_of records service past (record x { proposer = Some q })
+    (logged_as refl (logged_of records service past x u))
+    (record {
+      based = b.based;
+      replayed = b.replayed;
+      ahead = b.ahead;
+      caught_up = b.caught_up;
+      proposer = h;
+      acting = by x.acting (subst (λ o. IsActing service x.known x.acceptor o x.acting) e b.acting);
+      stamped = b.stamped;
+      role = fits;
+    })
+  where
+    by : (w : Option ActingValue) → IsActing service x.known x.acceptor (Some p) w → IsActing service x.known x.acceptor (Some q) w
+    by None k = tt
+    by (Some a) k = subst (λ o. ActsFor service x.known (open_of x.acceptor o) a) same k
+
 module _ {K : Type 0} {service : Declarations} {x : NodeValue K} {log : List (Rec Value StateValue)} (h : IsLogged service x log) where
   -- a promise was written
   pub logged_promised : {b : ℕ} → IsBallot b → IsLogged service (record x { acceptor = promising x.acceptor b }) (Promised b ∷ log)
@@ -170,7 +202,33 @@ module _ {K : Type 0} {service : Declarations} {x : NodeValue K} {log : List (Re
 abbrev pub call_at : Here → List (Message Value) → List Effect → CallHere
 call_at here sends effects = record { node = here; sends = sends; effects = effects }
 
+-- where both are the same it is that
+pub if_same : {A : Type 0} (b : Bool) {a : A} → a ≡ (if b then a else a)
+if_same true = refl
+if_same false = refl
+
+-- a node whose append failed is down in the model too: with the record, and this base then, or without
+pub fell_here : {K : Type 0} (records : K → List (List ℕ)) (service : Declarations) (past : List Value) (x : NodeValue K) (bytes : List ℕ) {said : Rec Value StateValue} {n : ℕ} → log_of service past (records x.keeper ++ bytes ∷ []) ≡ said ∷ log_of service past (records x.keeper) → x.base ≡ base (log_of service past (records x.keeper)) → n ≡ base (said ∷ log_of service past (records x.keeper))
+    → (kept : Bool) {k : K} {z : NodeValue K} → records k ≡ failed_records kept (records x.keeper) bytes → z ≡ record (fallen (record x { base = if kept then n else x.base })) { keeper = k } → {ms : List _} {es fs : List Effect} → ms ≡ [] → es ≡ fs
+    → call_at (here_of records service past z) (map (message_in past) ms) es ≡ call_at (down_node (if kept then said ∷ log_of service past (records x.keeper) else log_of service past (records x.keeper)) None) [] fs
+fell_here records service past x bytes {said} {n} written based n_is kept {k} grown parts {ms} {es} sends effects =
+    ap (λ z. call_at (here_of records service past z) (map (message_in past) ms) es) parts
+    ∙ by kept grown
+    ∙ ap (λ m. call_at (down_node (if kept then said ∷ log_of service past (records x.keeper) else log_of service past (records x.keeper)) None) (map (message_in past) m) es) sends
+    ∙ ap (call_at (down_node (if kept then said ∷ log_of service past (records x.keeper) else log_of service past (records x.keeper)) None) []) effects
+  where
+    at : List (Rec Value StateValue) → ℕ → CallHere
+    at l b = call_at (record (down_node l None) { replayed = b }) (map (message_in past) ms) es
+
+    by : (b : Bool) → records k ≡ failed_records b (records x.keeper) bytes → call_at (here_of records service past (record (fallen (record x { base = if b then n else x.base })) { keeper = k })) (map (message_in past) ms) es
+        ≡ call_at (down_node (if b then said ∷ log_of service past (records x.keeper) else log_of service past (records x.keeper)) None) (map (message_in past) ms) es
+    by true e = ap (λ l. at l n) (ap (log_of service past) e ∙ written) ∙ ap (at _) n_is
+    by false e = ap (λ l. at l x.base) (ap (log_of service past) e) ∙ ap (at _) based
+
 module _ {K : Type 0} (records : K → List (List ℕ)) (gives : K → List ℕ → Answer → K → Type 0) (faults : K → ℕ) (service : Declarations) (past : List Value) (x y : NodeValue K) (before after : Draft) {r : KeptRec} (spelling : HasSpelling r) (due : IsDue (standing_in (log_of service past (records x.keeper))) r) (stated : is_stated service (record_bytes r) ≡ true) where
+  abbrev begun : CallHere
+  begun = so_far records service past x before
+
   -- the records before
   abbrev pub old_log : List (Rec Value StateValue)
   old_log = log_of service past (records x.keeper)
@@ -183,44 +241,31 @@ module _ {K : Type 0} (records : K → List (List ℕ)) (gives : K → List ℕ 
   pub appended_log : Appends records faults gives x y before after (record_bytes r) On → log_of service past (records y.keeper) ≡ said ∷ old_log
   appended_log h = ap (log_of service past) h.0.records ∙ log_then service past (records x.keeper) r spelling due
 
-  pub appended_here : Appends records faults gives x y before after (record_bytes r) On → so_far records service past y after ≡ logged said None (so_far records service past x before)
-  appended_here h = at y.keeper after.effects.items after.sends.items (appended_log h) h.0.parts h.1 h.2
-    where
-      at : (k : K) (es : List Effect) (ms : List _) → log_of service past (records k) ≡ said ∷ old_log → y ≡ record x { keeper = k } → es ≡ before.effects.items → ms ≡ before.sends.items
-          → record { node = here_of records service past y; sends = map (message_in past) ms; effects = es } ≡ logged said None (so_far records service past x before)
-      at k es ms log parts effects sends =
-          ap (λ z. record { node = here_of records service past z; sends = map (message_in past) ms; effects = es }) parts
-          ∙ ap (λ l. record { node = record (here_of records service past x) { log = l }; sends = map (message_in past) ms; effects = es }) log
-          ∙ ap (λ n. record { node = record (here_of records service past x) { log = said ∷ old_log }; sends = map (message_in past) n; effects = es }) sends
-          ∙ ap (λ e. record { node = record (here_of records service past x) { log = said ∷ old_log }; sends = map (message_in past) before.sends.items; effects = e }) effects
+  pub appended_here : Appends records faults gives x y before after (record_bytes r) On → so_far records service past y after ≡ logged said None begun
+  appended_here h =
+      ap (λ z. call_at (here_of records service past z) (map (message_in past) after.sends.items) after.effects.items) h.0.parts
+      ∙ ap (λ l. call_at (record (here_of records service past x) { log = l }) (map (message_in past) after.sends.items) after.effects.items) (appended_log h)
+      ∙ ap (λ ms. call_at (record (here_of records service past x) { log = said ∷ old_log }) (map (message_in past) ms) after.effects.items) h.2
+      ∙ ap (call_at (record (here_of records service past x) { log = said ∷ old_log }) (map (message_in past) before.sends.items)) h.1
 
-  module _ {whole k : CallHere → CallHere} (is : (f : Option Failure) → whole (armed_with f (so_far records service past x before)) ≡ append f x.id said (armed_with f (so_far records service past x before)) k) where
+  module _ {whole k : CallHere → CallHere} (is : (f : Option Failure) → whole (armed_with f begun) ≡ append f x.id said (armed_with f begun) k) where
     -- the call goes on as the model's append does
-    pub appended_leads : Appends records faults gives x y before after (record_bytes r) On → Leads records gives faults service whole k x.keeper y.keeper (so_far records service past x before) (so_far records service past y after)
+    pub appended_leads : Appends records faults gives x y before after (record_bytes r) On → Leads records gives faults service whole k x.keeper y.keeper begun (so_far records service past y after)
     appended_leads h =
-        subst (Leads records gives faults service whole k x.keeper y.keeper (so_far records service past x before)) (sym (appended_here h))
+        subst (Leads records gives faults service whole k x.keeper y.keeper begun) (sym (appended_here h))
         (leads_append records gives faults service is x.keeper y.keeper stated h.0.answer h.0.records h.0.faults)
+
+    -- memory was short with the record there
+    pub appended_breaks : Appends records faults gives x y before after (record_bytes r) On → LosesFirst k → {z : NodeValue K} → z.keeper ≡ y.keeper → z.base ≡ base (said ∷ old_log) → BreaksOff records gives faults service past whole x z before
+    appended_breaks h loses {z} keeper at =
+        breaks_here y z after (appended_leads h)
+        (omega (arith, ap length h.0.records, length_push (records x.keeper) (record_bytes r)))
+        (at ∙ ap base (sym (ap (λ j. log_of service past (records j)) keeper ∙ appended_log h)))
+        loses (ap records keeper) (ap faults keeper) (inl keeper)
 
     -- or the node is down; the record is of another kind than a checkpoint, or the base is none of the node's
     pub appended_fell : x.base ≡ base old_log → base (said ∷ old_log) ≡ base old_log
-        → Appends records faults gives x y before after (record_bytes r) Down → Fell records gives faults service whole x.id x.keeper y.keeper (so_far records service past x before) (so_far records service past y after)
+        → Appends records faults gives x y before after (record_bytes r) Down → Fell records gives faults service whole x.id x.keeper y.keeper begun (so_far records service past y after)
     appended_fell based same h =
         fell_append records gives faults service is x.keeper y.keeper stated h.0.kept h.0.answer h.0.records h.0.faults
-        (at h.0.kept y.keeper after.effects.items after.sends.items h.0.records h.0.parts h.1 h.2)
-      where
-        log_in : (kept : Bool) → log_of service past (failed_records kept (records x.keeper) (record_bytes r)) ≡ (if kept then said ∷ old_log else old_log)
-        log_in true = log_then service past (records x.keeper) r spelling due
-        log_in false = refl
-
-        base_in : (kept : Bool) → x.base ≡ base (if kept then said ∷ old_log else old_log)
-        base_in true = based ∙ sym same
-        base_in false = based
-
-        at : (kept : Bool) (j : K) (es : List Effect) (ms : List _) → records j ≡ failed_records kept (records x.keeper) (record_bytes r) → y ≡ record (fallen x) { keeper = j } → es ≡ before.effects.items ++ effect.Down x.id ∷ [] → ms ≡ []
-            → call_at (here_of records service past y) (map (message_in past) ms) es ≡ call_at (down_node (if kept then said ∷ old_log else old_log) None) [] (before.effects.items ++ effect.Down x.id ∷ [])
-        at kept j es ms grown parts effects sends =
-            ap (λ z. call_at (here_of records service past z) (map (message_in past) ms) es) parts
-            ∙ ap (λ l. call_at (record (here_of records service past (fallen x)) { log = l }) (map (message_in past) ms) es) (ap (log_of service past) grown ∙ log_in kept)
-            ∙ ap (λ b. call_at (record (here_of records service past (fallen x)) { log = if kept then said ∷ old_log else old_log; replayed = b }) (map (message_in past) ms) es) (base_in kept)
-            ∙ ap (λ n. call_at (down_node (if kept then said ∷ old_log else old_log) None) (map (message_in past) n) es) sends
-            ∙ ap (call_at (down_node (if kept then said ∷ old_log else old_log) None) []) effects
+        (fell_here records service past x (record_bytes r) (log_then service past (records x.keeper) r spelling due) based (based ∙ sym same) h.0.kept h.0.records (h.0.parts ∙ ap (λ b. record (fallen (record x { base = b })) { keeper = y.keeper }) (if_same h.0.kept)) h.2 h.1)

@@ -6,14 +6,8 @@ use Rattle.rex_node.specs.Telling.{KeepsAsTold}
 
 -- the same records hold none more
 pub none_kept : (c : Content) (kept : List (List ℕ)) → KeepsAsTold c kept kept
-none_kept (sent.Prepare b i) kept = tt
-none_kept (sent.Promise b ps) kept = tt
-none_kept (sent.Accept b i v) kept = tt
-none_kept (sent.Accepted b i) kept = tt
-none_kept (sent.Chosen i v) kept = tt
-none_kept (sent.Nack b p) kept = tt
-none_kept (sent.Ask i) kept = tt
 none_kept (sent.Snapshot k bytes) kept = inl refl
+none_kept _ kept = tt
 
 module _ {K : Type 0} (records : K → List (List ℕ)) where
   -- the same keeper has the same records

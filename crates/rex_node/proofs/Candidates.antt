@@ -1,5 +1,5 @@
 -- A node that asks to lead does as the model's.
-use Rattle.rex_node.proofs.Common.{◌-◌, ◌^◌, HasTurns, MaySettle, ◌≡◌, ℕ, suc, ◌+◌, ◌*◌, ◌<◌, ◌≤◌, Bool, true, false, cond, List, [], ◌∷◌, ◌++◌, length, take, Result, Ok, Err, Option, Some, None, inr, refl, sym, ap, subst, ◌∙◌, arith, le_refl, map, nat_lt, is_some, IfOk, OnErr, IfSome, AllocError, false≢true, length-map, All-filter, Kept, IsValue, promising, IsOneOf, counted_none, counted_push, Declarations, StateValue, start_of, run, HasSpelling, record_bytes, Answer, Rec, Proposal, promise, accepted, from_on, known, Promised, ballot_above, round_of, Failure, Lead, Follower, Leading, Prepare, LeadFits, append, begin, elect, enough, logged, others, own_reports, say, send, settle, stand, with_role, Value, service_of, trace_of, Here, CallHere, length_push, Going, On, Down, Draft, content_in, message_in, Refusal, Step, armed_with, if_up, IsFree, Appends, Ends, Finishes, IsStuck, Leads, LosesFirst, RunsOn, above, so_far, log_of, proposal_in, NodeValue, IsKept, IsResting, IsSame, IsUp, Proposes, here_of, lead_of}
+use Rattle.rex_node.proofs.Common.{◌-◌, ◌^◌, MaySettle, ◌≡◌, ℕ, suc, ◌+◌, ◌*◌, ◌<◌, ◌≤◌, Bool, true, false, cond, List, [], ◌∷◌, ◌++◌, length, take, Result, Ok, Err, Option, Some, None, inr, refl, sym, ap, subst, ◌∙◌, arith, le_refl, map, nat_lt, IfOk, OnErr, AllocError, false≢true, length-map, All-filter, Kept, IsValue, promising, IsOneOf, counted_none, counted_push, Declarations, StateValue, start_of, run, HasSpelling, record_bytes, Answer, Rec, Proposal, promise, accepted, from_on, known, Promised, ballot_above, round_of, Failure, Lead, Follower, Leading, Prepare, LeadFits, append, begin, elect, enough, logged, others, own_reports, say, send, settle, stand, with_role, Value, service_of, trace_of, Here, CallHere, length_push, Going, On, Down, Draft, content_in, message_in, Refusal, Step, armed_with, if_up, Appends, Ends, Finishes, IsStuck, Leads, LosesFirst, RunsOn, above, so_far, log_of, proposal_in, NodeValue, IsKept, IsResting, IsSame, IsUp, Proposes, here_of, lead_of, Service}
 use Rattle.std.proofs.Common.{add-one}
 use Rattle.rex_ballot.specs.Ballot.{IsLeastAbove, ballot_left}
 use Rattle.rex_msg.specs.declared.message.Content.TheVariants as sent
@@ -10,7 +10,7 @@ use Rattle.rex_cluster.specs.Calls.{candidacy}
 use Rattle.rex_cluster.proofs.Lists.{in_from_on}
 use Rattle.rex_cluster.proofs.Ranged.{accepted_fit}
 use Rattle.rex_node.specs.Electing.{candidate_of, standing}
-use Rattle.rex_node.proofs.Appended.{Beside, IsLogged, appended_here, appended_leads, appended_log, ballot_fits, beside_of, call_at, logged_of, logged_promised, up_of}
+use Rattle.rex_node.proofs.Appended.{Beside, IsLogged, appended_here, appended_leads, appended_log, ballot_fits, beside_of, call_at, logged_of, logged_promised, up_of, logged_as}
 use Rattle.rex_log.proofs.Proposers.{left_is}
 use Rattle.rex_node.proofs.Continuing.{ends_if}
 use Rattle.rex_node.proofs.Stuck.{breaks_after, settle_loses}
@@ -20,7 +20,6 @@ use Rattle.rex_node.proofs.GoingLemmas.{leads_same, leads_then}
 use Rattle.rex_node.proofs.Grows.{rest_runs}
 use Rattle.rex_log.proofs.Accepting.{from_kept}
 use Rattle.rex_node.proofs.Leaving.{replayed_from, replayed_to, state_left}
-use Rattle.rex_node.proofs.Opening.{logged_as}
 use Rattle.rex_node.proofs.Recorded.{recorded_down, recorded_stuck}
 use Rattle.rex_cluster.proofs.CallLaws.{IsQuiet, replies_quiet}
 use Rattle.rex_cluster.proofs.Quiet.{elect_well}
@@ -42,26 +41,31 @@ module _ {K : Type 0} {records : K → List (List ℕ)} (gives : K → List ℕ 
   abbrev log : List (Rec Value StateValue)
   log = log_of service past (records x.keeper)
 
-  abbrev whole : CallHere → CallHere
-  whole = elect x.nodes (service_of service x.seed) x.id
+  abbrev sv : Service Value StateValue
+  sv = service_of service x.seed
 
-  -- what is left of the call once the promise is written
+  abbrev whole : CallHere → CallHere
+  whole = elect x.nodes sv x.id
+
+  -- it asks for promises once its own is written
+  abbrev asks : CallHere → CallHere
+  asks e = send (say (effect.Candidate x.id b) (with_role (Leading (candidacy x.id b log)) e)) (others x.nodes x.id (Prepare b (suc (length (known log)))))
+
+  -- what is left of the call then
   abbrev then_on : CallHere → CallHere
-  then_on e =
-      settle (enough (own_reports log)) x.nodes (service_of service x.seed) x.id
-      (send (say (effect.Candidate x.id b) (with_role (Leading (candidacy x.id b log)) e)) (others x.nodes x.id (Prepare b (suc (length (known log))))))
+  then_on e = settle (enough (own_reports log)) x.nodes sv x.id (asks e)
 
   few_nodes : x.id < 16
   few_nodes = let most = node.id.1 in let nine = node.few in omega arith
 
   -- the ballot is the model's
-  elect_is : (f : Option Failure) (d : CallHere) → d.node.log ≡ log → whole d ≡ stand x.nodes (service_of service x.seed) x.id b d
+  elect_is : (f : Option Failure) (d : CallHere) → d.node.log ≡ log → whole d ≡ stand x.nodes sv x.id b d
   elect_is f d e =
       let l = left_is _ few_nodes left in
       let promised : x.acceptor.promised ≡ promise d.node.log = u.promised ∙ ap promise (sym e) in
-      ap (λ p. cond (nat_lt 4294967296 (round_of (ballot_above x.id p))) (say (effect.Spent x.id) d) (stand x.nodes (service_of service x.seed) x.id (ballot_above x.id p) d)) (sym promised)
-      ∙ ap (λ t. cond t (say (effect.Spent x.id) d) (stand x.nodes (service_of service x.seed) x.id (ballot_above x.id x.acceptor.promised) d)) l.1
-      ∙ ap (λ c. stand x.nodes (service_of service x.seed) x.id c d) (sym l.0)
+      ap (λ p. cond (nat_lt 4294967296 (round_of (ballot_above x.id p))) (say (effect.Spent x.id) d) (stand x.nodes sv x.id (ballot_above x.id p) d)) (sym promised)
+      ∙ ap (λ t. cond t (say (effect.Spent x.id) d) (stand x.nodes sv x.id (ballot_above x.id x.acceptor.promised) d)) l.1
+      ∙ ap (λ c. stand x.nodes sv x.id c d) (sym l.0)
 
   pub stand_own : IsOwnBallot x.nodes b
   stand_own = record { few = node.few; own = subst (IsOneOf x.nodes) (sym least.own) (record { first = node.id.0; last = node.id.1 }) }
@@ -74,7 +78,7 @@ module _ {K : Type 0} {records : K → List (List ℕ)} (gives : K → List ℕ 
     begun = so_far records service past x before
 
     then_loses : LosesFirst then_on
-    then_loses d = settle_loses _ x.nodes x.id _ (send (say (effect.Candidate x.id b) (with_role (Leading (candidacy x.id b log)) d)) (others x.nodes x.id (Prepare b (suc (length (known log))))))
+    then_loses d = settle_loses _ x.nodes x.id _ (asks d)
 
     appends_is : (f : Option Failure) → whole (armed_with f begun) ≡ append f x.id (Promised b) (armed_with f begun) then_on
     appends_is f = elect_is f _ refl
@@ -97,7 +101,7 @@ module _ {K : Type 0} {records : K → List (List ℕ)} (gives : K → List ℕ 
         promised_here = logged_promised (logged_of records service past x u) (ballot_fits least.is)
 
         z_logged : IsLogged service z_at (log_of service past (records y.keeper))
-        z_logged = subst (IsLogged service z_at) (sym log_is) (logged_as refl refl refl refl refl refl promised_here)
+        z_logged = subst (IsLogged service z_at) (sym log_is) (logged_as refl promised_here)
 
         -- it reports what it accepted for the instances that it doesn't know
         reports_are : map proposal_in (candidate_of x b).reported ≡ own_reports log
@@ -156,21 +160,9 @@ module _ {K : Type 0} {records : K → List (List ℕ)} (gives : K → List ℕ 
           all : z ≡ z_at
           all = z_is ∙ ap (λ n. standing n b) h.0.parts
 
-          stand_kept : IsKept records service past z
-          stand_kept = subst (IsKept records service past) (sym all) z_kept
-
-          -- no proposal is open
-          stand_free : IsFree z.proposer (is_some z.acting)
-          stand_free = subst (λ n. IsFree n.proposer (is_some n.acting)) (sym all) (refl, λ t. absurd (false≢true t))
-
           module _ {turns : ℕ} (turns_are : turns ≡ 2 * length (candidate_of y b).reported + 3) where
             turns_here : turns ≡ 2 * length (candidate_of x b).reported + 3
             turns_here = turns_are ∙ ap (λ n. 2 * length (candidate_of n b).reported + 3) h.0.parts
-
-            stand_turns : HasTurns z turns
-            stand_turns =
-                subst (λ n. IfSome n.proposer (λ p. 2 * above (length n.known) p.reported + 1 ≤ turns)) (sym all)
-                (omega (arith, above_most (length x.known) (candidate_of x b).reported, turns_here))
 
             module _ (after : Draft) (effects : after.effects.items ≡ mid.effects.items ++ effect.Candidate y.id b ∷ [])
                 (sends : map (message_in past) after.sends.items ≡ map (message_in past) mid.sends.items ++ others y.nodes y.id (content_in past (sent.Prepare b (length y.known + 1)))) where
@@ -180,8 +172,8 @@ module _ {K : Type 0} {records : K → List (List ℕ)} (gives : K → List ℕ 
               here_is : here_of records service past z_at ≡ (with_role (Leading (candidacy x.id b log)) (logged (Promised b) None begun)).node
               here_is =
                   ap (λ (n : Here). record n { role = Leading (lead_of (promising x.acceptor b) (candidate_of x b) false) })
-                  (follower_here node up {a = promising x.acceptor b} log_is refl
-                  (record { promised = promised_here.promised; accepted = promised_here.accepted; offset_is = promised_here.offset_is; low = promised_here.low; known = promised_here.known; base = promised_here.base; old_base = promised_here.old_base; few = promised_here.few; start = promised_here.start; short = promised_here.short; fits = promised_here.fits; numbers = promised_here.numbers })
+                  (follower_here node up y.keeper {a = promising x.acceptor b} log_is refl
+                  promised_here
                   (le_refl _) (λ n l. refl) (map (message_in past) before.sends.items) before.effects.items)
                   ∙ ap (λ (l : Lead Value). record (with_role Follower (logged (Promised b) None begun)).node { role = Leading l }) lead_is
 
@@ -195,46 +187,49 @@ module _ {K : Type 0} {records : K → List (List ℕ)} (gives : K → List ℕ 
               effects_here : after.effects.items ≡ before.effects.items ++ effect.Candidate x.id b ∷ []
               effects_here = effects ∙ ap (λ n. mid.effects.items ++ effect.Candidate n.id b ∷ []) h.0.parts ∙ ap (λ es. es ++ effect.Candidate x.id b ∷ []) h.1
 
-              stands_as : so_far records service past z_at after ≡ send (say (effect.Candidate x.id b) (with_role (Leading (candidacy x.id b log)) (logged (Promised b) None begun))) (others x.nodes x.id (Prepare b (suc (length (known log)))))
+              stands_as : so_far records service past z_at after ≡ asks (logged (Promised b) None begun)
               stands_as =
                   far records service past z_at after effects_here sends_here
                   ∙ ap (λ n. call_at n (map (message_in past) before.sends.items ++ others x.nodes x.id (Prepare b (suc (length (known log))))) (before.effects.items ++ effect.Candidate x.id b ∷ [])) here_is
 
               abbrev rest : CallHere → CallHere
-              rest = settle turns x.nodes (service_of service x.seed) x.id
+              rest = settle turns x.nodes sv x.id
 
               stand_leads : Leads records gives faults service whole rest x.keeper z_at.keeper begun (so_far records service past z_at after)
               stand_leads =
-                  leads_then records gives faults service
-                  (appended_leads records gives faults service past x y before mid spelled tt refl appends_is h)
-                  (leads_same records gives faults service refl comes)
+                  leads_then (appended_leads records gives faults service past x y before mid spelled tt refl appends_is h)
+                  (leads_same refl comes)
                 where
                   comes : (f : Option Failure) → then_on (armed_with f (so_far records service past y mid)) ≡ rest (armed_with f (so_far records service past z_at after))
                   comes f =
                       ap (λ d. then_on (armed_with f d)) (appended_here records gives faults service past x y before mid spelled tt refl h)
-                      ∙ ap (λ n. settle n x.nodes (service_of service x.seed) x.id (armed_with f (send (say (effect.Candidate x.id b) (with_role (Leading (candidacy x.id b log)) (logged (Promised b) None begun))) (others x.nodes x.id (Prepare b (suc (length (known log)))))))) enough_is
+                      ∙ ap (λ n. settle n x.nodes sv x.id (armed_with f (asks (logged (Promised b) None begun)))) enough_is
                       ∙ ap (λ d. rest (armed_with f d)) (sym stands_as)
-
-              stand_runs : RunsOn service whole begun → RunsOn service (settle turns z.nodes (service_of service z.seed) z.id) (so_far records service past z after)
-              stand_runs r =
-                  subst (λ n. RunsOn service (settle turns n.nodes (service_of service n.seed) n.id) (so_far records service past n after)) (sym all)
-                  (rest_runs past x z_at before after stand_leads r)
 
               -- it may go on
               pub stand_may : RunsOn service whole begun → faults x.keeper < 2 ^ 64 - 1 → MaySettle records faults service past turns z after
-              stand_may runs count = record { kept = stand_kept; up = subst (λ n. n.up ≡ true) (sym all) up; free = stand_free; enough = stand_turns; runs = stand_runs runs; count = subst (λ n. faults n.keeper < 2 ^ 64 - 1) (sym all) (subst (λ n. n < 2 ^ 64 - 1) (sym h.0.faults) count) }
+              stand_may runs count =
+                  subst (λ n. MaySettle records faults service past turns n after) (sym all)
+                  (record {
+                    kept = z_kept;
+                    up = up;
+                    free = (refl, λ t. absurd (false≢true t));
+                    enough = omega (arith, above_most (length x.known) (candidate_of x b).reported, turns_here);
+                    runs = rest_runs past x z_at before after stand_leads runs;
+                    count = subst (λ n. n < 2 ^ 64 - 1) (sym h.0.faults) count;
+                  })
 
               pub stand_short : (w : NodeValue K) (end : Result Going AllocError) → OnErr end (IsStuck records gives faults service past (settle turns z.nodes (service_of service z.seed) z.id) z w after) → OnErr end (IsStuck records gives faults service past whole x w before)
               stand_short w (Ok going) s = tt
               stand_short w (Err e) s =
                   inr (breaks_after z_at w after stand_leads (omega (arith, ap length h.0.records, length_push (records x.keeper) (record_bytes (kept.Promised b)))) (z_kept.up up).base
-                  (settle_loses turns x.nodes x.id (service_of service x.seed))
+                  (settle_loses turns x.nodes x.id sv)
                   (subst (λ n. IsStuck records gives faults service past (settle turns n.nodes (service_of service n.seed) n.id) n w after) all s))
 
               pub stand_ends : (w : NodeValue K) (final : Draft) (end : Result Going AllocError) → IfOk end (Ends records gives faults service past (settle turns z.nodes (service_of service z.seed) z.id) z w after final)
                   → IfOk end (Ends records gives faults service past whole x w before final)
               stand_ends w final end e =
-                  ends_if records gives faults service past whole rest x z_at w before after final end refl stand_leads
+                  ends_if past x z_at w before after final end refl stand_leads
                   (subst (λ n. IfOk end (Ends records gives faults service past (settle turns n.nodes (service_of service n.seed) n.id) n w after final)) all e)
 
 -- ---- the end of an election

@@ -63,7 +63,7 @@ pub use Rattle.rex_node.specs.Cutting.{IsIdle, IsPieceOf, ProposesCut, ProposesC
 pub use Rattle.rex_node.specs.Electing.{acceptance_vote_on, reports_of, told_of}
 pub use Rattle.rex_node.specs.Going.{Appends, BreaksOff, Comes, Ends, Fell, Finishes, IsStuck, Leads, Leads as LeadsOn, LosesFirst, HasTurns, RunsOn, Sends, Tells, TellsBase, above, answering, later, one_later, so_far}
 pub use Rattle.rex_node.specs.Leading.{FromLead, GoesRound, HasLearned, HasOpened, IsFree, IsOwnCut, MayPropose, MaySettle, Learns, LearnsShort, Opens, OpensShort, accept_own, goes_on, knowing, may_lead, opened, replayed_to, reported_value, settling}
-pub use Rattle.rex_node.specs.Parts.{ActingValue, ActsFor, AreShort, Executes, Falls, HasDecoded, HasGoneOn, HasOpen, HasReached, HasStamps, IsActing, IsCutAt, IsDown, IsKept, IsProposer, IsResting, IsSame, IsUp, Keeps, NodeValue, NumbersReplies, OpenIsCut, Proposes, ReachedValue, RunsShort, Stands, StaysResting, ahead_left, ahead_of, count_of, failed_records, fallen, here_of, knows, lead_of, leaving, open_of, reached_at, role_of, state_of, whole, work_of}
+pub use Rattle.rex_node.specs.Parts.{ActingValue, ActsFor, AreShort, Executes, Falls, HasDecoded, HasGoneOn, HasOpen, HasReached, HasStamps, IsActing, IsCutAt, IsDown, IsKept, IsProposer, IsResting, IsSame, IsUp, NodeValue, NumbersReplies, OpenIsCut, Proposes, ReachedValue, RunsShort, Stands, StaysResting, ahead_left, ahead_of, count_of, failed_records, fallen, here_of, knows, lead_of, leaving, open_of, reached_at, role_of, state_of, whole, work_of}
 pub use Rattle.rex_node.specs.Restarting.{IsFound, IsRecalled, IsRestartFault, IsSaved, KeepsReached, bad_at, bad_in, decoded_last, ends_old, first_bad, has_state, old_in, place_or, state_at}
 pub use Rattle.rex_node.specs.Stated.{AreStated, is_stated}
 pub use Rattle.rex_node.specs.Submitting.{given}

@@ -1,5 +1,5 @@
 -- A node counts promises as the model's does.
-use Rattle.rex_node.proofs.Common.{◌-◌, ◌^◌, HasTurns, MaySettle, ◌≡◌, ℕ, ◌+◌, ◌*◌, ◌<◌, ◌≤◌, Bool, true, false, cond, ◌||◌, not, ◌⊎◌, inl, inr, List, [], ◌∷◌, ◌++◌, length, Option, Some, None, refl, sym, ap, subst, ◌∙◌, arith, length-append, ◌==◌, map, is_some, option_map, IfSome, All, false≢true, length-map, map-append, All-append, All-head, All-tail, All-weaker, Kept, IsValue, AcceptorValue, IsOneOf, AreCounted, is_counted, ProposerValue, is_candidate, voted, Vote, Why, counted_push, Declarations, StateValue, Effect, Answer, Proposal, is_in, is_majority, Failure, Lead, Service, Leading, LeadFits, RoleFits, enough, heard, led, on_own_promise, on_promise, say, settle, Value, service_of, CallHere, Going, Draft, message_in, armed_with, reports_of, told_of, BreaksOff, Ends, IsStuck, Leads, RunsOn, above, so_far, IsFree, proposal_in, NodeValue, ActingValue, HasGoneOn, HasOpen, IsActing, IsKept, IsResting, IsProposer, IsUp, Proposes, RunsShort, Stands, here_of, lead_of, open_of, role_of}
+use Rattle.rex_node.proofs.Common.{◌-◌, ◌^◌, MaySettle, ◌≡◌, ℕ, ◌+◌, ◌*◌, ◌<◌, ◌≤◌, Bool, true, false, cond, ◌||◌, not, ◌⊎◌, inl, inr, List, [], ◌∷◌, ◌++◌, length, Option, Some, None, refl, sym, ap, subst, ◌∙◌, arith, length-append, ◌==◌, map, is_some, option_map, All, false≢true, length-map, map-append, All-append, All-head, All-tail, All-weaker, Kept, IsValue, AcceptorValue, IsOneOf, AreCounted, is_counted, ProposerValue, is_candidate, voted, Vote, Why, counted_push, Declarations, StateValue, Effect, Answer, Proposal, is_in, is_majority, Failure, Lead, Service, Leading, LeadFits, enough, heard, led, on_own_promise, on_promise, say, settle, Value, service_of, CallHere, Going, Draft, message_in, armed_with, reports_of, told_of, BreaksOff, Ends, IsStuck, Leads, RunsOn, so_far, proposal_in, NodeValue, HasGoneOn, HasOpen, IsKept, IsResting, IsProposer, IsUp, Proposes, Stands, here_of, lead_of, open_of, role_of, Role}
 use Rattle.std.proofs.lemmas.Cmp.{nat_eq_equiv}
 use Rattle.rex_ballot.specs.Proposals.{IsProposal}
 use Rattle.rex_paxos.specs.Counting as counts
@@ -16,15 +16,14 @@ use Rattle.rex_cluster.specs.Ranges.{ProposalFits}
 use Rattle.rex_cluster.specs.Calls.{hear}
 use Rattle.rex_cluster.proofs.Lists.{in_cases}
 use Rattle.rex_node.specs.Electing.{counting, uncounting, vote_on}
-use Rattle.rex_node.proofs.Appended.{Beside, ballot_fits, beside_of, instance_fits, logged_of, up_of}
+use Rattle.rex_node.proofs.Appended.{ballot_fits, instance_fits, up_proposing, lead_fits_of}
 use Rattle.rex_log.proofs.Proposers.{in_counted, majority_is}
 use Rattle.rex_node.proofs.Candidates.{above_most}
 use Rattle.rex_node.proofs.Continuing.{ends_then}
-use Rattle.rex_node.proofs.Following.{EndsWell, ends_same, far}
+use Rattle.rex_node.proofs.Following.{EndsWell, ends_same, far, kept_rests}
 use Rattle.rex_node.proofs.GoingLemmas.{leads_same}
 use Rattle.rex_node.proofs.Grows.{rest_runs}
-use Rattle.rex_node.proofs.Opening.{logged_as}
-use Rattle.rex_node.proofs.Stuck.{breaks_kept, breaks_later, stands_same}
+use Rattle.rex_node.proofs.Stuck.{breaks_kept, breaks_later, stands_same, stands_back}
 
 -- ---- votes
 
@@ -97,14 +96,21 @@ module _ (n : ℕ) (sv : Service Value StateValue) (me from b : ℕ) (ps : List 
   abbrev late : Bool → Option Why
   late candidate = cond (not candidate) (Some Late) again
 
-  once_made : cond (is_in from p.promised) (say (effect.IgnoredAgain from) d) (hear n sv me (heard own from ps) d) ≡ made again
-  once_made = ap (λ t. cond t (say (effect.IgnoredAgain from) d) (hear n sv me (heard own from ps) d)) (in_counted from _) ∙ go (is_counted from p.promised)
+  -- it counts the promise, but for one that it has counted
+  abbrev once : Bool → CallHere
+  once counted = cond counted (say (effect.IgnoredAgain from) d) (hear n sv me (heard own from ps) d)
+
+  abbrev on_own : CallHere
+  on_own = on_own_promise n sv me from ps d own (open_of a p.open_instance)
+
+  once_made : once (is_in from p.promised) ≡ made again
+  once_made = ap once (in_counted from _) ∙ go (is_counted from p.promised)
     where
-      go : (t : Bool) → cond t (say (effect.IgnoredAgain from) d) (hear n sv me (heard own from ps) d) ≡ made (cond t (Some (Again from)) None)
+      go : (t : Bool) → once t ≡ made (cond t (Some (Again from)) None)
       go true = refl
       go false = refl
 
-  active_made : (t : Bool) → is_candidate p ≡ not (t || false) → cond t (say effect.IgnoredLate d) (cond (is_in from p.promised) (say (effect.IgnoredAgain from) d) (hear n sv me (heard own from ps) d)) ≡ made (late (is_candidate p))
+  active_made : (t : Bool) → is_candidate p ≡ not (t || false) → cond t (say effect.IgnoredLate d) (once (is_in from p.promised)) ≡ made (late (is_candidate p))
   active_made true e = ap (λ c. made (late c)) (sym e)
   active_made false e = once_made ∙ ap (λ c. made (late c)) (sym e)
 
@@ -115,11 +121,9 @@ module _ (n : ℕ) (sv : Service Value StateValue) (me from b : ℕ) (ps : List 
       ∙ ap (λ c. made (late c)) (sym (e ∙ ap not (or_true active)))
 
   pub promise_made : HasOpen a p.ballot p.open_instance → is_candidate p ≡ not (active || is_some p.open_instance) → on_promise n sv me from b ps d (Leading own) ≡ made (promise_refusal p b from)
-  promise_made h e =
-      ap (λ t. cond t (on_own_promise n sv me from ps d own (open_of a p.open_instance)) (say (effect.IgnoredBallot b p.ballot) d)) (nat_eq_equiv.symm p.ballot b)
-      ∙ go (b == p.ballot)
+  promise_made h e = ap (λ t. cond t on_own (say (effect.IgnoredBallot b p.ballot) d)) (nat_eq_equiv.symm p.ballot b) ∙ go (b == p.ballot)
     where
-      go : (t : Bool) → cond t (on_own_promise n sv me from ps d own (open_of a p.open_instance)) (say (effect.IgnoredBallot b p.ballot) d) ≡ made (cond (not t) (Some (Ballot b p.ballot)) (late (is_candidate p)))
+      go : (t : Bool) → cond t on_own (say (effect.IgnoredBallot b p.ballot) d) ≡ made (cond (not t) (Some (Ballot b p.ballot)) (late (is_candidate p)))
       go true = own_made _ h e
       go false = refl
 
@@ -155,8 +159,14 @@ module _ {K : Type 0} {records : K → List (List ℕ)} (gives : K → List ℕ 
   u : IsUp service x (here_of records service past x)
   u = node.up up
 
+  abbrev sv : Service Value StateValue
+  sv = service_of service x.seed
+
+  abbrev told_in : CallHere → Role Value → CallHere
+  told_in d role = on_promise x.nodes sv x.id from b (map proposal_in reported) d role
+
   abbrev whole : CallHere → CallHere
-  whole d = on_promise x.nodes (service_of service x.seed) x.id from b (map proposal_in reported) d d.node.role
+  whole d = told_in d d.node.role
 
   one_of : IsOneOf x.nodes from
   one_of = record { first = there.0; last = there.1 }
@@ -165,8 +175,8 @@ module _ {K : Type 0} {records : K → List (List ℕ)} (gives : K → List ℕ 
     abbrev begun : CallHere
     begun = so_far records service past x before
 
-    whole_at : (f : Option Failure) {o : Option ProposerValue} → x.proposer ≡ o → whole (armed_with f begun) ≡ on_promise x.nodes (service_of service x.seed) x.id from b (map proposal_in reported) (armed_with f begun) (role_of x.acceptor o (is_some x.acting))
-    whole_at f e = ap (λ q. on_promise x.nodes (service_of service x.seed) x.id from b (map proposal_in reported) (armed_with f begun) (role_of x.acceptor q (is_some x.acting))) e
+    whole_at : (f : Option Failure) {o : Option ProposerValue} → x.proposer ≡ o → whole (armed_with f begun) ≡ told_in (armed_with f begun) (role_of x.acceptor o (is_some x.acting))
+    whole_at f e = ap (λ q. told_in (armed_with f begun) (role_of x.acceptor q (is_some x.acting))) e
 
     module _ {p : ProposerValue} (e : x.proposer ≡ Some p) where
       proposes : Proposes x.nodes x.id x.acceptor p
@@ -175,11 +185,14 @@ module _ {K : Type 0} {records : K → List (List ℕ)} (gives : K → List ℕ 
       gone : is_candidate p ≡ not (is_some x.acting || is_some p.open_instance)
       gone = subst (λ o. HasGoneOn o (is_some x.acting)) e (node.rests up)
 
-      made_is : (f : Option Failure) {r : Option Why} → promise_refusal p b from ≡ r → whole (armed_with f begun) ≡ made x.nodes (service_of service x.seed) x.id from b (map proposal_in reported) x.acceptor p (is_some x.acting) (armed_with f begun) r
+      abbrev made_of : Option Failure → Option Why → CallHere
+      made_of f = made x.nodes sv x.id from b (map proposal_in reported) x.acceptor p (is_some x.acting) (armed_with f begun)
+
+      made_is : (f : Option Failure) {r : Option Why} → promise_refusal p b from ≡ r → whole (armed_with f begun) ≡ made_of f r
       made_is f k =
           whole_at f e
           ∙ promise_made x.nodes _ x.id from b _ x.acceptor p _ _ proposes.open_one gone
-          ∙ ap (made x.nodes (service_of service x.seed) x.id from b (map proposal_in reported) x.acceptor p (is_some x.acting) (armed_with f begun)) k
+          ∙ ap (made_of f) k
 
     -- ---- one that is ignored
 
@@ -199,7 +212,7 @@ module _ {K : Type 0} {records : K → List (List ℕ)} (gives : K → List ℕ 
           → EndsWell records gives faults service past x z before after whole
       promise_ignored {z} z_is told_is after effects sends =
           subst (λ n. EndsWell records gives faults service past x n before after whole) (sym (ignored_same z_is))
-          (ends_same records gives faults service past x x before after refl node up
+          (ends_same x before after refl node up
           (λ f. says_at _ refl vote_is
           ∙ ap (armed_with f) (sym (far records service past x after (effects ∙ ap (λ t. before.effects.items ++ t ∷ []) told_is) (ap (map (message_in past)) sends)))))
 
@@ -255,10 +268,6 @@ module _ {K : Type 0} {records : K → List (List ℕ)} (gives : K → List ℕ 
             open_one = h.open_one;
           }
 
-      z_acting : (w : Option ActingValue) → IsActing service x.known x.acceptor (Some p) w → IsActing service x.known x.acceptor (Some more) w
-      z_acting None h = tt
-      z_acting (Some a) h = h
-
       z_role : LeadFits (length x.known) (lead_of x.acceptor p (is_some x.acting)) → LeadFits (length x.known) (lead_of x.acceptor more (is_some x.acting))
       z_role h = record {
         ballot = h.ballot;
@@ -266,124 +275,94 @@ module _ {K : Type 0} {records : K → List (List ℕ)} (gives : K → List ℕ 
         next = h.next;
       }
 
-      z_beside : Beside records service past z_at
-      z_beside =
-          let o = beside_of records service past x u in
-          record {
-            based = o.based;
-            replayed = o.replayed;
-            ahead = o.ahead;
-            caught_up = o.caught_up;
-            proposer = z_proposes;
-            acting = z_acting x.acting (subst (λ q. IsActing service x.known x.acceptor q x.acting) e o.acting);
-            stamped = o.stamped;
-            role = z_role (subst (λ q. RoleFits (length x.known) (role_of x.acceptor q (is_some x.acting))) e o.role);
-          }
+      z_up : IsUp service z_at (here_of records service past z_at)
+      z_up = up_proposing records past u e refl z_proposes (z_role (lead_fits_of records past u e))
 
       z_kept : IsKept records service past z_at
-      z_kept = record { id = node.id; few = node.few; up = λ t. up_of records service past z_at (logged_as refl refl refl refl refl refl (logged_of records service past x u)) z_beside; reached = node.reached; decoded = node.decoded }
+      z_kept = record { id = node.id; few = node.few; up = λ _. z_up; reached = node.reached; decoded = node.decoded }
 
       -- the call counts it
-      hears_is : (f : Option Failure) → whole (armed_with f begun) ≡ hear x.nodes (service_of service x.seed) x.id (lead_of x.acceptor more (is_some x.acting)) (armed_with f begun)
-      hears_is f = made_is e f new ∙ ap (λ l. hear x.nodes (service_of service x.seed) x.id l (armed_with f begun)) (sym heard_is)
+      abbrev with_more : Option Failure → CallHere
+      with_more f = led (Leading (lead_of x.acceptor more (is_some x.acting))) (armed_with f begun)
+
+      hears_is : {t : Bool} → counts.is_majority p.nodes (length p.promised + 1) ≡ t → (f : Option Failure) → whole (armed_with f begun) ≡ cond t (settle (enough (map proposal_in more.reported)) x.nodes sv x.id (with_more f)) (say (effect.Have (length more.promised)) (with_more f))
+      hears_is k f =
+          made_is e f new
+          ∙ ap (λ l. hear x.nodes sv x.id l (armed_with f begun)) (sym heard_is)
+          ∙ ap (λ t. cond t (settle (enough (map proposal_in more.reported)) x.nodes sv x.id (with_more f)) (say (effect.Have (length more.promised)) (with_more f))) (majority_same k)
 
       -- ---- memory was short, and it is taken back
 
-      stands_back : {z w v : NodeValue K} → z ≡ counting x b from reported → Stands records faults gives z w → v ≡ uncounting w (length reported) → Stands records faults gives x v
-      stands_back {z} {w} {v} z_is s v_is = record {
-        parts =
-            v_is
-            ∙ ap (λ n. uncounting n (length reported)) s.parts
-            ∙ ap (λ n. record (uncounting n (length reported)) { keeper = w.keeper }) z_is
-            ∙ ap (λ o. record x { keeper = w.keeper; proposer = option_map (λ q. without_last q (length reported)) (option_map (λ q. promise_counted q b from reported) o) }) e
-            ∙ ap (λ q. record x { keeper = w.keeper; proposer = Some q }) (taken_back p b from reported new)
-            ∙ ap (λ o. record x { keeper = w.keeper; proposer = o }) (sym e)
-            ∙ ap (λ k. record x { keeper = k }) (sym keeper);
-        records = ap records keeper ∙ s.records ∙ ap records counted;
-        faults = ap faults keeper ∙ s.faults ∙ ap faults counted;
-        short = subst (λ k. RunsShort gives x.keeper k) (sym keeper) (subst (λ k. RunsShort gives k w.keeper) counted s.short);
-      }
-        where
-          keeper : v.keeper ≡ w.keeper
-          keeper = ap (λ n. n.keeper) v_is
-
-          counted : z.keeper ≡ x.keeper
-          counted = ap (λ n. n.keeper) (counted_at z_is)
+      taken_from : {z w v : NodeValue K} → z ≡ counting x b from reported → Stands records faults gives z w → v ≡ uncounting w (length reported) → Stands records faults gives x v
+      taken_from {z} {w} {v} z_is s v_is =
+          stands_back (ap (λ n. n.keeper) (counted_at z_is))
+          (v_is
+          ∙ ap (λ n. uncounting n (length reported)) s.parts
+          ∙ ap (λ n. record (uncounting n (length reported)) { keeper = w.keeper }) z_is
+          ∙ ap (λ o. record x { keeper = w.keeper; proposer = option_map (λ q. without_last q (length reported)) (option_map (λ q. promise_counted q b from reported) o) }) e
+          ∙ ap (λ q. record x { keeper = w.keeper; proposer = Some q }) (taken_back p b from reported new)
+          ∙ ap (λ o. record x { keeper = w.keeper; proposer = o }) (sym e))
+          s
 
       pub promise_back : {z v : NodeValue K} → z ≡ counting x b from reported → v ≡ uncounting z (length reported) → IsStuck records gives faults service past whole x v before
-      promise_back {z} {v} z_is v_is = inl (stands_back z_is (stands_same) v_is)
+      promise_back {z} {v} z_is v_is = inl (taken_from z_is stands_same v_is)
 
       -- ---- it is no majority yet
 
       module _ (few : counts.is_majority p.nodes (length p.promised + 1) ≡ false) where
         z_node : IsResting records service past z_at
-        z_node = record {
-          id = node.id;
-          few = node.few;
-          up = z_kept.up;
-          reached = node.reached;
-          decoded = node.decoded;
-          rests = λ t.
-              ap not (ap (counts.is_majority p.nodes) length_more ∙ few)
-              ∙ sym (ap (λ s. not (s || is_some p.open_instance)) free.0 ∙ ap (λ o. not (false || is_some o)) free.1);
-        }
+        z_node =
+            kept_rests z_kept
+            (ap not (ap (counts.is_majority p.nodes) length_more ∙ few)
+            ∙ sym (ap (λ s. not (s || is_some p.open_instance)) free.0 ∙ ap (λ o. not (false || is_some o)) free.1))
 
         pub promise_have : {z : NodeValue K} → z ≡ counting x b from reported → {have : ℕ} → have ≡ length p.promised + 1 → (after : Draft) → after.effects.items ≡ before.effects.items ++ effect.Have have ∷ [] → after.sends.items ≡ before.sends.items
             → EndsWell records gives faults service past x z before after whole
         promise_have {z} z_is have_is after effects sends =
             subst (λ n. EndsWell records gives faults service past x n before after whole) (sym (counted_at z_is))
-            (ends_same records gives faults service past x z_at before after refl z_node up
-            (λ f. hears_is f
-            ∙ ap (λ t. cond t (settle (enough (map proposal_in more.reported)) x.nodes (service_of service x.seed) x.id (led (Leading (lead_of x.acceptor more (is_some x.acting))) (armed_with f begun))) (say (effect.Have (length more.promised)) (led (Leading (lead_of x.acceptor more (is_some x.acting))) (armed_with f begun)))) (majority_same few)
-            ∙ ap (λ n. say (effect.Have n) (led (Leading (lead_of x.acceptor more (is_some x.acting))) (armed_with f begun))) (length_more ∙ sym have_is)
+            (ends_same x before after refl z_node up
+            (λ f. hears_is few f
+            ∙ ap (λ n. say (effect.Have n) (with_more f)) (length_more ∙ sym have_is)
             ∙ ap (armed_with f) (sym (far records service past z_at after effects (ap (map (message_in past)) sends)))))
 
       -- ---- it is a majority
 
       module _ (many : counts.is_majority p.nodes (length p.promised + 1) ≡ true) {z : NodeValue K} (z_is : z ≡ counting x b from reported) where
-        promise_kept : IsKept records service past z
-        promise_kept = subst (IsKept records service past) (sym (counted_at z_is)) z_kept
-
-        promise_free : IsFree z.proposer (is_some z.acting)
-        promise_free = subst (λ n. IsFree n.proposer (is_some n.acting)) (sym (counted_at z_is)) (free.1, λ t. absurd (false≢true (sym free.0 ∙ t)))
-
         module _ {turns : ℕ} (turns_are : turns ≡ 2 * reports_of z.proposer + 3) where
           turns_here : turns ≡ 2 * length more.reported + 3
           turns_here = turns_are ∙ ap (λ n. 2 * reports_of n.proposer + 3) (counted_at z_is)
 
-          promise_turns : HasTurns z turns
-          promise_turns =
-              subst (λ n. IfSome n.proposer (λ q. 2 * above (length n.known) q.reported + 1 ≤ turns)) (sym (counted_at z_is))
-              (omega (arith, above_most (length x.known) more.reported, turns_here))
-
           abbrev rest : CallHere → CallHere
-          rest = settle turns x.nodes (service_of service x.seed) x.id
+          rest = settle turns x.nodes sv x.id
 
           promise_leads : Leads records gives faults service whole rest x.keeper x.keeper begun (so_far records service past z_at before)
           promise_leads =
-              leads_same records gives faults service refl
-              (λ f. hears_is f
-              ∙ ap (λ t. cond t (settle (enough (map proposal_in more.reported)) x.nodes (service_of service x.seed) x.id (led (Leading (lead_of x.acceptor more (is_some x.acting))) (armed_with f begun))) (say (effect.Have (length more.promised)) (led (Leading (lead_of x.acceptor more (is_some x.acting))) (armed_with f begun)))) (majority_same many)
-              ∙ ap (λ n. settle (2 * n + 3) x.nodes (service_of service x.seed) x.id (armed_with f (so_far records service past z_at before))) (length-map more.reported proposal_in)
-              ∙ ap (λ n. settle n x.nodes (service_of service x.seed) x.id (armed_with f (so_far records service past z_at before))) (sym turns_here))
-
-          promise_runs : RunsOn service whole begun → RunsOn service (settle turns z.nodes (service_of service z.seed) z.id) (so_far records service past z before)
-          promise_runs r =
-              subst (λ n. RunsOn service (settle turns n.nodes (service_of service n.seed) n.id) (so_far records service past n before)) (sym (counted_at z_is))
-              (rest_runs past x z_at before before promise_leads r)
+              leads_same refl
+              (λ f. hears_is many f
+              ∙ ap (λ n. settle (2 * n + 3) x.nodes sv x.id (armed_with f (so_far records service past z_at before))) (length-map more.reported proposal_in)
+              ∙ ap (λ n. settle n x.nodes sv x.id (armed_with f (so_far records service past z_at before))) (sym turns_here))
 
           -- it may go on
           pub promise_may : RunsOn service whole begun → faults x.keeper < 2 ^ 64 - 1 → MaySettle records faults service past turns z before
-          promise_may runs count = record { kept = promise_kept; up = subst (λ n. n.up ≡ true) (sym (counted_at z_is)) up; free = promise_free; enough = promise_turns; runs = promise_runs runs; count = subst (λ n. faults n.keeper < 2 ^ 64 - 1) (sym (counted_at z_is)) count }
+          promise_may runs count =
+              subst (λ n. MaySettle records faults service past turns n before) (sym (counted_at z_is))
+              (record {
+                kept = z_kept;
+                up = up;
+                free = (free.1, λ t. absurd (false≢true (sym free.0 ∙ t)));
+                enough = omega (arith, above_most (length x.known) more.reported, turns_here);
+                runs = rest_runs past x z_at before before promise_leads runs;
+                count = count;
+              })
 
           pub promise_ends : {w : NodeValue K} (after : Draft) (going : Going) → Ends records gives faults service past (settle turns z.nodes (service_of service z.seed) z.id) z w before after going → Ends records gives faults service past whole x w before after going
           promise_ends {w} after going h =
-              ends_then records gives faults service past whole rest x z_at w before before after going refl promise_leads
+              ends_then x z_at before before after going refl promise_leads
               (subst (λ n. Ends records gives faults service past (settle turns n.nodes (service_of service n.seed) n.id) n w before after going) (counted_at z_is) h)
 
           -- memory was short, and it is taken back
           pub promise_stuck : {w v : NodeValue K} → IsStuck records gives faults service past (settle turns z.nodes (service_of service z.seed) z.id) z w before → v ≡ uncounting w (length reported) → IsStuck records gives faults service past whole x v before
-          promise_stuck {w} {v} (inl s) v_is = inl (stands_back z_is s v_is)
+          promise_stuck {w} {v} (inl s) v_is = inl (taken_from z_is s v_is)
           promise_stuck {w} {v} (inr b) v_is =
               inr (breaks_later z_at v before promise_leads
               (breaks_kept (ap (λ n. n.keeper) v_is) (ap (λ n. n.base) v_is)

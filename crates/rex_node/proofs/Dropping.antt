@@ -1,5 +1,5 @@
 -- A node that forgets the values up to its base does as the model's.
-use Rattle.rex_node.proofs.Common.{◌≡◌, ℕ, suc, ◌-◌, ◌<◌, ◌≤◌, Bool, true, false, cond, eqb, leb, ltb, List, [], ◌∷◌, ◌++◌, length, take, drop, Option, Some, None, refl, sym, ap, subst, ◌∙◌, arith, length-append, map, option_map, if◌then◌else◌, eqb-true, leb-true, leb-false, lt-ltb, ne_eqb, take-append-le, All-filter, Kept, IsValue, proposal_for, AcceptorValue, forgetting, ProposerValue, Declarations, StateValue, HasSpelling, IsDue, record_bytes, Answer, Rec, Proposal, base, from_on, known, offset, Failure, RoleFits, append, say, Begins, Value, CallHere, log_of, proposal_in, standing_in, message_in, above_from, first_take, Draft, On, Down, armed_with, Appends, Fell, IsStuck, so_far, ActingValue, ActsFor, HasOpen, IsActing, IsProposer, IsResting, IsUp, NodeValue, count_of, here_of, knows, lead_of, open_of, role_of, whole, IsDown}
+use Rattle.rex_node.proofs.Common.{◌≡◌, ℕ, suc, ◌-◌, ◌<◌, ◌≤◌, Bool, true, false, eqb, ltb, List, [], ◌∷◌, ◌++◌, length, take, drop, Option, Some, None, refl, sym, ap, subst, ◌∙◌, arith, length-append, map, option_map, if◌then◌else◌, eqb-true, lt-ltb, ne_eqb, take-append-le, All-filter, Kept, IsValue, proposal_for, AcceptorValue, forgetting, ProposerValue, Declarations, StateValue, HasSpelling, IsDue, record_bytes, Answer, Rec, Proposal, base, known, offset, Failure, RoleFits, append, say, Begins, Value, CallHere, log_of, proposal_in, standing_in, message_in, first_take, Draft, On, Down, armed_with, Appends, IsStuck, so_far, ActingValue, ActsFor, HasOpen, IsActing, IsProposer, IsResting, IsUp, NodeValue, count_of, here_of, knows, lead_of, open_of, role_of, whole, Ends}
 use Rattle.rex_cluster.specs.Calls.{drop_known}
 use Rattle.std.proofs.lemmas.List.{take-append-drop}
 use Rattle.rex_ballot.specs.Proposals.{above}
@@ -12,6 +12,7 @@ use Rattle.rex_node.specs.Telling.{dropped}
 use Rattle.rex_node.proofs.Appended.{Beside, IsLogged, appended_log, beside_of, call_at, logged_of, up_of}
 use Rattle.rex_node.proofs.Following.{EndsWell, far}
 use Rattle.rex_node.proofs.Knows as knowing
+use Rattle.rex_node.proofs.Moving.{accepted_above}
 use Rattle.rex_node.proofs.Recorded.{recorded_down, recorded_on, recorded_stuck}
 use Rattle.rex_node.proofs.Votes.{found_instance}
 
@@ -53,23 +54,6 @@ dropped_whole {past} x y {k} parts z_is k_is low few begins =
 
     to : k ≤ length (knows past y)
     to = omega (arith, k_is, few, ap (λ (vs : List Value). length vs) knows_is)
-
--- ---- what it accepted
-
--- those from a later instance on are among those from an instance on
-from_on_later : {i j : ℕ} (ps : List (Proposal Value)) → i ≤ j → from_on j (from_on i ps) ≡ from_on j ps
-from_on_later [] l = refl
-from_on_later {i} {j} (p ∷ ps) l = go (leb i p.instance) refl (leb j p.instance) refl (from_on_later ps l)
-  where
-    go : (early : Bool) → leb i p.instance ≡ early → (late : Bool) → leb j p.instance ≡ late → from_on j (from_on i ps) ≡ from_on j ps
-        → from_on j (cond early (p ∷ from_on i ps) (from_on i ps)) ≡ cond late (p ∷ from_on j ps) (from_on j ps)
-    go true a true b ih = rw b (ap (λ qs. p ∷ qs) ih)
-    go true a false b ih = rw b ih
-    go false a true b ih = absurd (let x = leb-false i p.instance a in let y = leb-true j p.instance b in omega (arith, l))
-    go false a false b ih = ih
-
-forgotten : {o k : ℕ} (ps : List Kept) (qs : List (Proposal Value)) → map proposal_in ps ≡ from_on (suc o) qs → o ≤ k → map proposal_in (above k ps) ≡ from_on (suc k) qs
-forgotten {o} {k} ps qs e l = above_from k ps ∙ ap (from_on (suc k)) e ∙ from_on_later qs (omega (arith, l))
 
 -- ---- its role
 
@@ -133,6 +117,12 @@ module _ {K : Type 0} (records : K → List (List ℕ)) (gives : K → List ℕ 
   abbrev log : List (Rec Value StateValue)
   log = log_of service past (records x.keeper)
 
+  abbrev begun : CallHere
+  begun = so_far records service past x before
+
+  abbrev armed : Option Failure → CallHere
+  armed f = armed_with f begun
+
   u : IsUp service x (here_of records service past x)
   u = node.up up
 
@@ -152,18 +142,18 @@ module _ {K : Type 0} (records : K → List (List ℕ)) (gives : K → List ℕ 
   due = (subst (λ o. o < x.base) l.offset_is held, l.base)
 
   -- the model appends the record
-  appends : (f : Option Failure) → drop_known x.id (armed_with f (so_far records service past x before)) ≡ append f x.id (Dropped x.base) (armed_with f (so_far records service past x before)) (say (effect.Dropped x.id x.base))
+  appends : (f : Option Failure) → drop_known x.id (armed f) ≡ append f x.id (Dropped x.base) (armed f) (say (effect.Dropped x.id x.base))
   appends f =
       ap (λ t. drops_if t (base log)) (ne_eqb (base log) (offset log) (λ e. omega (arith, held, l.base, l.offset_is, e)))
       ∙ ap (drops_if false) (sym l.base)
     where
       drops_if : Bool → ℕ → CallHere
       drops_if t n =
-          if t then say effect.Nothing (armed_with f (so_far records service past x before))
-          else append f x.id (Dropped n) (armed_with f (so_far records service past x before)) (say (effect.Dropped x.id n))
+          if t then say effect.Nothing (armed f)
+          else append f x.id (Dropped n) (armed f) (say (effect.Dropped x.id n))
 
   pub drop_down : Appends records faults gives x y before mid (record_bytes (kept.Dropped x.base)) Down
-      → (Fell records gives faults service (drop_known x.id) x.id x.keeper y.keeper (so_far records service past x before) (so_far records service past y mid) × IsDown y) × IsResting records service past y
+      → Ends records gives faults service past (drop_known x.id) x y before mid Down
   drop_down h = recorded_down gives faults y before mid node up drop_spelled due refl refl appends h
 
   pub drop_stuck : Appends records faults gives x y before mid (record_bytes (kept.Dropped x.base)) On → {z : NodeValue K} → z.keeper ≡ y.keeper → z.base ≡ y.base → IsStuck records gives faults service past (drop_known x.id) x z before
@@ -176,7 +166,7 @@ module _ {K : Type 0} (records : K → List (List ℕ)) (gives : K → List ℕ 
     forgets_logged : IsLogged service (forgetful x y.keeper) (Dropped x.base ∷ log)
     forgets_logged = record {
       promised = l.promised;
-      accepted = forgotten _ _ l.accepted (omega (arith, held, l.offset_is));
+      accepted = accepted_above _ _ (omega (arith, held, l.offset_is)) l.accepted;
       offset_is = refl;
       low = omega arith;
       known = l.known;
@@ -214,7 +204,7 @@ module _ {K : Type 0} (records : K → List (List ℕ)) (gives : K → List ℕ 
     drop_on : {z : NodeValue K} (after : Draft) → z ≡ forgetful x y.keeper → after.effects.items ≡ mid.effects.items ++ effect.Dropped x.id x.base ∷ [] → after.sends.items ≡ mid.sends.items
         → EndsWell records gives faults service past x z before after (drop_known x.id)
     drop_on {z} after z_is effects sends =
-        recorded_on gives faults y before mid node up drop_spelled due refl refl appends h after
+        recorded_on gives faults y before mid node up drop_spelled due refl appends h after
         (ap (λ n. n.keeper) z_is) (subst (IsResting records service past) (sym z_is) forgets_node) (ap (λ n. n.up) z_is ∙ up) (λ f. refl)
         (far records service past z after
         (effects ∙ ap (λ es. es ++ effect.Dropped x.id x.base ∷ []) h.1) (ap (map (message_in past)) (sends ∙ h.2))

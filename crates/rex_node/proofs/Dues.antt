@@ -14,14 +14,7 @@ refuses : (a : ActingValue) (cut : List ℕ) (result : Result Piece Refusal) →
 refuses a cut (Ok p) h = none_where_some _ h.some
 refuses a cut (Err why.Nothing) h = ap refusal_of_none h
 refuses a cut (Err why.OutOfMemory) h = tt
-refuses a cut (Err why.Down) h = absurd h
-refuses a cut (Err (why.NotActive role)) h = absurd h
-refuses a cut (Err (why.Open instance)) h = absurd h
-refuses a cut (Err why.Ended) h = absurd h
-refuses a cut (Err (why.Live events)) h = absurd h
-refuses a cut (Err why.UpToDate) h = absurd h
-refuses a cut (Err why.Spent) h = absurd h
-refuses a cut (Err (why.BadSnapshot fault)) h = absurd h
+refuses a cut (Err _) h = absurd h
 
 module _ {K : Type 0} {records : K → List (List ℕ)} {service : Declarations} {past : List Value} {x : NodeValue K} (node : IsResting records service past x) (up : x.up ≡ true) where
   is_up : IsUp service x (here_of records service past x)

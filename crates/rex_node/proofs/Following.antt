@@ -1,11 +1,11 @@
 -- What a node is that leaves its role, with a record more or none.
-use Rattle.rex_node.proofs.Common.{◌≡◌, ℕ, suc, ◌<◌, ◌≤◌, true, List, [], ◌∷◌, ◌++◌, length, take, Option, Some, None, refl, sym, ap, subst, ◌∙◌, arith, le_trans, map, is_some, option_map, if◌then◌else◌, lt-ltb, le-ltb, ne_eqb, false≢true, same_Some, AcceptorValue, ProposerValue, Declarations, StateValue, start_of, run, Effect, Answer, Rec, base, known, Known, Failure, Message, no_work, Follower, say, follow, followed, logged, work_left, replayed_left, with_role, append, on_chosen, on_nack, Value, trace_of, Here, CallHere, Draft, message_in, armed_with, Leads, Tells, so_far, log_of, NodeValue, IsUp, IsKept, IsResting, here_of, role_of, work_of, leaving}
+use Rattle.rex_node.proofs.Common.{◌≡◌, ℕ, suc, ◌<◌, ◌≤◌, true, List, [], ◌∷◌, ◌++◌, length, take, Option, Some, None, refl, sym, ap, subst, ◌∙◌, arith, le_trans, map, is_some, option_map, if◌then◌else◌, lt-ltb, le-ltb, ne_eqb, false≢true, same_Some, AcceptorValue, ProposerValue, Declarations, StateValue, start_of, run, Effect, Answer, Rec, base, known, Known, Failure, Message, no_work, Follower, say, follow, followed, logged, work_left, replayed_left, with_role, append, on_chosen, on_nack, Value, trace_of, Here, CallHere, Draft, message_in, armed_with, Leads, Tells, so_far, log_of, NodeValue, IsUp, IsKept, IsResting, here_of, role_of, work_of, leaving, HasDecoded, IsDown, IsSame, most_nodes, HasGoneOn}
 use Rattle.rex_report.specs.declared.effect.Effect.TheVariants as effect
 use Rattle.rex_report.specs.declared.effect.Effect.TheVariants.{IgnoredBallot, IgnoredInstance}
-use Rattle.rex_node.proofs.Appended.{IsLogged, Beside, call_at, beside_of, up_of}
+use Rattle.rex_node.proofs.Appended.{IsLogged, Beside, call_at, beside_of, logged_as, up_of}
 use Rattle.rex_node.proofs.GoingLemmas.{leads_same}
 use Rattle.rex_node.proofs.Leaving.{role_active, no_work_left, replayed_from, replayed_to, state_left, leaves, node_left}
-use Rattle.rex_node.proofs.Reaching.{still_reached}
+use Rattle.rex_node.proofs.Reaching.{bare_reached, still_reached}
 
 -- ---- drafts
 
@@ -20,6 +20,21 @@ module _ {K : Type 0} (records : K → List (List ℕ)) (service : Declarations)
 pub within : {K : Type 0} {records : K → List (List ℕ)} {service : Declarations} {past : List Value} {x : NodeValue K} → IsResting records service past x → IsKept records service past x
 within h = record { id = h.id; few = h.few; up = h.up; reached = h.reached; decoded = h.decoded }
 
+-- and rests between calls where it has gone on
+pub kept_rests : {K : Type 0} {records : K → List (List ℕ)} {service : Declarations} {past : List Value} {x : NodeValue K} → IsKept records service past x → HasGoneOn x.proposer (is_some x.acting) → IsResting records service past x
+kept_rests h gone = record { id = h.id; few = h.few; up = h.up; reached = h.reached; decoded = h.decoded; rests = λ _. gone }
+
+-- the same node is kept where it is down
+pub down_kept : {K : Type 0} {records : K → List (List ℕ)} {service : Declarations} {past : List Value} {x y : NodeValue K} → IsKept records service past x → IsSame x y → IsDown y → IsResting records service past y
+down_kept {service} {x} {y} kept same down = record {
+  id = subst (λ n. (0 < n) × (n ≤ y.nodes)) (sym same.id) (subst (λ n. (0 < x.id) × (x.id ≤ n)) (sym same.nodes) kept.id);
+  few = subst (λ n. n ≤ most_nodes) (sym same.nodes) kept.few;
+  up = λ t. absurd (false≢true (sym down.down ∙ t));
+  reached = bare_reached service y.offset y.known down.bare;
+  decoded = subst (HasDecoded service) (sym same.decoded) kept.decoded;
+  rests = λ t. absurd (false≢true (sym down.down ∙ t));
+}
+
 -- ---- the last part of a call
 
 module _ {K : Type 0} (records : K → List (List ℕ)) (gives : K → List ℕ → Answer → K → Type 0) (faults : K → ℕ) (service : Declarations) (past : List Value) (x z : NodeValue K) (before after : Draft) where
@@ -27,60 +42,63 @@ module _ {K : Type 0} (records : K → List (List ℕ)) (gives : K → List ℕ 
   abbrev pub EndsWell : (CallHere → CallHere) → Type 0
   EndsWell whole = (Leads records gives faults service whole (λ d. d) x.keeper z.keeper (so_far records service past x before) (so_far records service past z after) × IsKept records service past z × (z.up ≡ true)) × IsResting records service past z
 
-  -- where nothing was appended
-  pub ends_same : {whole : CallHere → CallHere} → z.keeper ≡ x.keeper → IsResting records service past z → z.up ≡ true
-      → ((f : Option Failure) → whole (armed_with f (so_far records service past x before)) ≡ armed_with f (so_far records service past z after)) → EndsWell whole
-  ends_same {whole} same node up h = (
-    (
-      subst (λ k. Leads records gives faults service whole (λ d. d) x.keeper k (so_far records service past x before) (so_far records service past z after)) (sym same)
-          (leads_same records gives faults service (ap (λ k. length (log_of service past (records k))) same) h),
-      within node,
-      up,
-    ),
-    node,
-  )
+-- where nothing was appended
+pub ends_same : {K : Type 0} {records : K → List (List ℕ)} {gives : K → List ℕ → Answer → K → Type 0} {faults : K → ℕ} {service : Declarations} {past : List Value} (x : NodeValue K) {z : NodeValue K} (before after : Draft) {whole : CallHere → CallHere} → z.keeper ≡ x.keeper → IsResting records service past z → z.up ≡ true
+    → ((f : Option Failure) → whole (armed_with f (so_far records service past x before)) ≡ armed_with f (so_far records service past z after)) → EndsWell records gives faults service past x z before after whole
+ends_same {records} {gives} {faults} {service} {past} x {z} before after {whole} same node up h = (
+  (
+    subst (λ k. Leads records gives faults service whole (λ d. d) x.keeper k (so_far records service past x before) (so_far records service past z after)) (sym same)
+        (leads_same (ap (λ k. length (log_of service past (records k))) same) h),
+    within node,
+    up,
+  ),
+  node,
+)
 
 -- ---- a refusal of the own ballot
 
 module _ {K : Type 0} {records : K → List (List ℕ)} (gives : K → List ℕ → Answer → K → Type 0) (faults : K → ℕ) {service : Declarations} {past : List Value} {x : NodeValue K} (node : IsResting records service past x) (up : x.up ≡ true) (before after : Draft) (promised : ℕ) {own : ℕ} (own_is : option_map (λ (p : ProposerValue). p.ballot) x.proposer ≡ Some own) where
+  abbrev begun : CallHere
+  begun = so_far records service past x before
+
   nack_at : Option Failure → Option ProposerValue → CallHere
-  nack_at f o = on_nack x.id promised (armed_with f (so_far records service past x before)) (role_of x.acceptor o (is_some x.acting))
+  nack_at f o = on_nack x.id promised (armed_with f begun) (role_of x.acceptor o (is_some x.acting))
 
   -- one that isn't above it is ignored
   pub nack_ignored : promised ≤ own → after.effects.items ≡ before.effects.items ++ IgnoredBallot promised own ∷ [] → after.sends.items ≡ before.sends.items
       → EndsWell records gives faults service past x x before after (λ d. on_nack x.id promised d d.node.role)
   nack_ignored less effects sends =
-      ends_same records gives faults service past x x before after refl node up
+      ends_same x before after refl node up
       (λ f. by f x.proposer own_is ∙ ap (armed_with f) (sym (far records service past x after effects (ap (map (message_in past)) sends))))
     where
       by : (f : Option Failure) (o : Option ProposerValue) → option_map (λ p. p.ballot) o ≡ Some own
-          → on_nack x.id promised (armed_with f (so_far records service past x before)) (role_of x.acceptor o (is_some x.acting)) ≡ armed_with f (say (IgnoredBallot promised own) (so_far records service past x before))
+          → on_nack x.id promised (armed_with f begun) (role_of x.acceptor o (is_some x.acting)) ≡ armed_with f (say (IgnoredBallot promised own) begun)
       by f None e = absurd (cc)
       by f (Some p) e =
           let b : p.ballot ≡ own = same_Some p.ballot own e in
-          ap (λ t. if t then follow x.id [] (armed_with f (so_far records service past x before)) else say (IgnoredBallot promised p.ballot) (armed_with f (so_far records service past x before)))
+          ap (λ t. if t then follow x.id [] (armed_with f begun) else say (IgnoredBallot promised p.ballot) (armed_with f begun))
           (le-ltb p.ballot promised (omega (arith, b)))
-          ∙ ap (λ c. say (IgnoredBallot promised c) (armed_with f (so_far records service past x before))) b
+          ∙ ap (λ c. say (IgnoredBallot promised c) (armed_with f begun)) b
 
   -- one above it makes the node a follower
   pub nack_follows : {z : NodeValue K} → own < promised → z ≡ leaving x → Tells before after (followed x.id (role_of x.acceptor x.proposer (is_some x.acting)))
       → EndsWell records gives faults service past x z before after (λ d. on_nack x.id promised d d.node.role)
   nack_follows less z_is told =
       subst (λ n. EndsWell records gives faults service past x n before after (λ d. on_nack x.id promised d d.node.role)) (sym z_is)
-      (ends_same records gives faults service past x _ before after refl (node_left node) up
+      (ends_same x before after refl (node_left node) up
       (λ f. by f x.proposer own_is ∙ ap (armed_with f) (sym left)))
     where
-      left : so_far records service past (leaving x) after ≡ follow x.id [] (so_far records service past x before)
+      left : so_far records service past (leaving x) after ≡ follow x.id [] begun
       left =
           far records service past (leaving x) after told.effects_are (ap (map (message_in past)) told.sends_are)
           ∙ ap (λ h. call_at h (map (message_in past) before.sends.items) (before.effects.items ++ followed x.id (role_of x.acceptor x.proposer (is_some x.acting)))) (leaves records past (node.up up))
 
       by : (f : Option Failure) (o : Option ProposerValue) → option_map (λ p. p.ballot) o ≡ Some own
-          → on_nack x.id promised (armed_with f (so_far records service past x before)) (role_of x.acceptor o (is_some x.acting)) ≡ armed_with f (follow x.id [] (so_far records service past x before))
+          → on_nack x.id promised (armed_with f begun) (role_of x.acceptor o (is_some x.acting)) ≡ armed_with f (follow x.id [] begun)
       by f None e = absurd (cc)
       by f (Some p) e =
           let b : p.ballot ≡ own = same_Some p.ballot own e in
-          ap (λ t. if t then follow x.id [] (armed_with f (so_far records service past x before)) else say (IgnoredBallot promised p.ballot) (armed_with f (so_far records service past x before)))
+          ap (λ t. if t then follow x.id [] (armed_with f begun) else say (IgnoredBallot promised p.ballot) (armed_with f begun))
           (lt-ltb p.ballot promised (omega (arith, b)))
 
 -- ---- a chosen value of another instance than the next
@@ -90,7 +108,7 @@ module _ {K : Type 0} {records : K → List (List ℕ)} (gives : K → List ℕ 
   pub chosen_ignored : next ≡ suc (length x.known) → (i ≡ next → ⊥) → after.effects.items ≡ before.effects.items ++ IgnoredInstance i next ∷ [] → after.sends.items ≡ before.sends.items
       → EndsWell records gives faults service past x x before after (on_chosen x.id i v)
   chosen_ignored next_is other effects sends =
-      ends_same records gives faults service past x x before after refl node up
+      ends_same x before after refl node up
       (λ f.
       ap (λ t. if t then append f x.id (Known i v) (armed_with f (so_far records service past x before)) (λ e. follow x.id (effect.Known x.id i ∷ []) e) else say (IgnoredInstance i (suc (length (known (here_of records service past x).log)))) (armed_with f (so_far records service past x before)))
       (ne_eqb i (suc (length (known (here_of records service past x).log))) (λ e. other (e ∙ sym here)))
@@ -102,9 +120,9 @@ module _ {K : Type 0} {records : K → List (List ℕ)} (gives : K → List ℕ 
 
 -- ---- a follower with one record more
 
-module _ {K : Type 0} {records : K → List (List ℕ)} {service : Declarations} {past : List Value} {x : NodeValue K} (node : IsResting records service past x) (up : x.up ≡ true) {k : K} {r : Rec Value StateValue} {a : AcceptorValue} {vs : List Value}
+module _ {K : Type 0} {records : K → List (List ℕ)} {service : Declarations} {past : List Value} {x : NodeValue K} (node : IsResting records service past x) (up : x.up ≡ true) (k : K) {r : Rec Value StateValue} {a : AcceptorValue} {vs : List Value}
     (log_is : log_of service past (records k) ≡ r ∷ log_of service past (records x.keeper)) (base_is : base (r ∷ log_of service past (records x.keeper)) ≡ base (log_of service past (records x.keeper)))
-    (logged_here : IsLogged service (record x { keeper = k; acceptor = a; known = vs }) (r ∷ log_of service past (records x.keeper)))
+    (logged_here : IsLogged service (record x { acceptor = a; known = vs }) (r ∷ log_of service past (records x.keeper)))
     (more : length x.known ≤ length vs) (front : (n : ℕ) → n ≤ length x.known → take n vs ≡ take n x.known) where
   u : IsUp service x (here_of records service past x)
   u = node.up up
@@ -127,9 +145,6 @@ module _ {K : Type 0} {records : K → List (List ℕ)} {service : Declarations}
   pub follower_node : IsResting records service past follower
   follower_node = record { id = node.id; few = node.few; up = λ t. follower_up; reached = still_reached service x.offset x.reached more front node.reached; decoded = node.decoded; rests = λ t. tt }
     where
-      l : IsLogged service (record x { keeper = k; acceptor = a; known = vs }) (log_of service past (records k))
-      l = subst (λ log. IsLogged service (record x { keeper = k; acceptor = a; known = vs }) log) (sym log_is) logged_here
-
       b : Beside records service past x
       b = beside_of records service past x u
 
@@ -139,7 +154,7 @@ module _ {K : Type 0} {records : K → List (List ℕ)} {service : Declarations}
       follower_up : IsUp service follower (here_of records service past follower)
       follower_up =
           up_of records service past follower
-          (record { promised = l.promised; accepted = l.accepted; offset_is = l.offset_is; low = l.low; known = l.known; base = l.base; old_base = l.old_base; few = l.few; start = l.start; short = l.short; fits = l.fits; numbers = l.numbers })
+          (logged_as refl (subst (IsLogged service (record x { acceptor = a; known = vs })) (sym log_is) logged_here))
           (record {
             based = replayed_from x.acting b.based;
             replayed = le_trans to more;

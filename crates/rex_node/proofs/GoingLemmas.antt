@@ -33,7 +33,7 @@ both_failed : (kept : Bool) (first second : List (List ℕ)) (n : ℕ) {m l : �
 both_failed true first second n h k = let e = length-append first second in omega arith
 both_failed false first second n {m} {l} h k = both first second n h k
 
-module _ {K : Type 0} (records : K → List (List ℕ)) (gives : K → List ℕ → Answer → K → Type 0) (faults : K → ℕ) (service : Declarations) where
+module _ {K : Type 0} {records : K → List (List ℕ)} {gives : K → List ℕ → Answer → K → Type 0} {faults : K → ℕ} {service : Declarations} where
   -- where nothing is appended
   pub leads_same : {whole rest : CallHere → CallHere} {old : K} {d e : CallHere} → length e.node.log ≡ length d.node.log → ((f : Option Failure) → whole (armed_with f d) ≡ rest (armed_with f e)) → Leads records gives faults service whole rest old old d e
   leads_same {old} same h = record { written = []; grown = sym (append-nil (records old)); appends = (refl, refl); counted = refl; stated = refl; many = omega (arith, same); comes = h }
@@ -70,7 +70,8 @@ module _ {K : Type 0} (records : K → List (List ℕ)) (gives : K → List ℕ 
     quiet = k.quiet;
   }
 
-  -- a record is appended
+-- a record is appended
+module _ {K : Type 0} (records : K → List (List ℕ)) (gives : K → List ℕ → Answer → K → Type 0) (faults : K → ℕ) (service : Declarations) where
   module _ {whole k : CallHere → CallHere} {me : ℕ} {r : Rec Value StateValue} {d : CallHere} (is : (f : Option Failure) → whole (armed_with f d) ≡ append f me r (armed_with f d) k) (old new : K) {bytes : List ℕ} (stated : is_stated service bytes ≡ true) where
     pub leads_append : gives old bytes (Ok tt) new → records new ≡ records old ++ bytes ∷ [] → faults new ≡ faults old → Leads records gives faults service whole k old new d (logged r None d)
     leads_append answer grown counted = record {

@@ -1,12 +1,12 @@
 -- What the records of a keeper hold.
-use Rattle.rex_node.proofs.Common.{◌≡◌, ℕ, suc, ◌+◌, ◌-◌, ◌^◌, ◌<◌, Bool, true, false, List, [], ◌∷◌, ◌++◌, length, take, drop, take-append-drop, get_or, Result, Ok, Err, Option, Some, None, ◌⊎◌, inl, inr, refl, sym, ap, subst, ◌∙◌, arith, fold, nat_lt, IsOk, slice_index_or, if◌then◌else◌, length-map, take_more, fold_push, Declarations, delta_in, state_in, Dropped, Transferred, HasSpelling, record_bytes, Spell, Recovered, Saved, checkpoint_in, snapshot_of, StateValue, filter_map, same_Some, Place, IsFound, IsSaved, bad_at, bad_in, ends_old, first_bad, has_state, old_in, place_or, state_at}
+use Rattle.rex_node.proofs.Common.{◌≡◌, ℕ, suc, ◌+◌, ◌-◌, ◌^◌, ◌<◌, Bool, true, false, List, [], ◌∷◌, ◌++◌, length, take, drop, take-append-drop, get_or, Result, Ok, Err, Option, Some, None, ◌⊎◌, inl, inr, refl, sym, ap, subst, ◌∙◌, arith, fold, nat_lt, IsOk, slice_index_or, if◌then◌else◌, length-map, take_more, fold_push, Declarations, delta_in, state_in, Transferred, HasSpelling, record_bytes, Spell, Recovered, Saved, checkpoint_in, snapshot_of, StateValue, filter_map, same_Some, Place, IsFound, IsSaved, bad_at, bad_in, ends_old, first_bad, has_state, old_in, place_or, state_at}
 use Rattle.std.proofs.Common.{drop-cons}
 use Rattle.std.specs.Prelude.{not, ◌||◌}
 use Rattle.std.proofs.Math.Seq.{drop-length}
 use Rattle.std.proofs.lemmas.List.{get_or-map}
 use Rattle.std.proofs.lemmas.Nat.{from_be_bytes-to_be_bytes_4}
 use Rattle.rex_durable.specs.declared.records.Rec.{Rec}
-use Rattle.rex_durable.specs.declared.records.Rec.TheVariants.{Promised, Accepted, Known, Checkpoint}
+use Rattle.rex_durable.specs.declared.records.Rec.TheVariants.{Promised, Known, Checkpoint}
 use Rattle.rex_durable.specs.Recovery.{checkpoint, offset}
 use Rattle.rex_node.specs.Restarting.{IsRead, bad_behind, is_held, is_state, old_behind}
 use Rattle.rex_node.specs.Stated.{is_state_kind}
@@ -15,12 +15,8 @@ use Rattle.rex_node.specs.Stated.{is_state_kind}
 
 -- no list of fewer bytes says an instance
 pub short_isn't_held : (offset : ℕ) (bytes : List ℕ) → length bytes < 5 → is_held offset bytes ≡ false
-short_isn't_held offset [] l = refl
-short_isn't_held offset (k ∷ []) l = refl
-short_isn't_held offset (k ∷ a ∷ []) l = refl
-short_isn't_held offset (k ∷ a ∷ b ∷ []) l = refl
-short_isn't_held offset (k ∷ a ∷ b ∷ c ∷ []) l = refl
 short_isn't_held offset (k ∷ a ∷ b ∷ c ∷ d ∷ content) l = absurd (omega arith)
+short_isn't_held offset _ l = refl
 
 -- the instance of a known value is above the offset or isn't
 known_held : (offset : ℕ) {instance : ℕ} {value : List ℕ} → HasSpelling (Known instance value) → is_held offset (record_bytes (Known instance value)) ≡ nat_lt offset instance
@@ -40,43 +36,32 @@ IsLast service last r rs = (saved : Saved) → checkpoint_in r ≡ Some saved �
 -- what a record holds is bad where the record is
 pub bad_is : (service : Declarations) (offset : ℕ) {last : Option ℕ} (r : Rec) (rs : List Rec) → HasSpelling r → IsLast service last r rs
     → bad_behind last (get_or (record_bytes r) 0 0) (is_held offset (record_bytes r)) (drop 9 (record_bytes r)) (has_state rs) ≡ bad_in service offset r rs
-bad_is service offset (Promised ballot) rs s h = refl
-bad_is service offset (Accepted ballot instance value) rs s h = refl
 bad_is service offset (Known instance value) rs s h =
     ap (λ held. if held then bad_at (delta_in value) else None) (known_held offset s)
 bad_is service offset {last} (Checkpoint deltas snapshot) rs s h =
     only_last _ (h (record { deltas = deltas; snapshot = snapshot }) refl)
-bad_is service offset (Dropped deltas) rs s h = refl
 bad_is service offset {last} (Transferred deltas snapshot) rs s h =
     only_last _ (h (record { deltas = deltas; snapshot = snapshot }) refl)
+bad_is service offset _ rs s h = refl
 
 -- ---- the last state that records have
 
 -- the one before them, where they have none
 none_later : (rs : List Rec) {before : Option Saved} → has_state rs ≡ false → fold (λ (b : Option Saved) x. Some x) before (filter_map checkpoint_in rs) ≡ before
 none_later [] e = refl
-none_later (Promised ballot ∷ rs) {before} e = none_later rs e
-none_later (Accepted ballot instance value ∷ rs) {before} e = none_later rs e
-none_later (Known instance value ∷ rs) {before} e = none_later rs e
 none_later (Checkpoint deltas snapshot ∷ rs) e = absurd (cc)
-none_later (Dropped deltas ∷ rs) {before} e = none_later rs e
 none_later (Transferred deltas snapshot ∷ rs) e = absurd (cc)
+none_later (_ ∷ rs) e = none_later rs e
 
 -- that of a record behind which none comes
 last_later : (front : List Rec) (r : Rec) (rs : List Rec) {saved : Saved} (before : Option Saved) → checkpoint_in r ≡ Some saved → has_state rs ≡ false
     → fold (λ (b : Option Saved) x. Some x) before (filter_map checkpoint_in (front ++ r ∷ rs)) ≡ Some saved
-last_later [] (Promised ballot) rs before is e = absurd (cc)
-last_later [] (Accepted ballot instance value) rs before is e = absurd (cc)
-last_later [] (Known instance value) rs before is e = absurd (cc)
 last_later [] (Checkpoint deltas snapshot) rs before is e = none_later rs e ∙ is
-last_later [] (Dropped deltas) rs before is e = absurd (cc)
 last_later [] (Transferred deltas snapshot) rs before is e = none_later rs e ∙ is
-last_later (Promised ballot ∷ front) r rs {saved} before is e = last_later front r rs before is e
-last_later (Accepted ballot instance value ∷ front) r rs {saved} before is e = last_later front r rs before is e
-last_later (Known instance value ∷ front) r rs {saved} before is e = last_later front r rs before is e
-last_later (Checkpoint deltas snapshot ∷ front) r rs {saved} before is e = last_later front r rs _ is e
-last_later (Dropped deltas ∷ front) r rs {saved} before is e = last_later front r rs before is e
-last_later (Transferred deltas snapshot ∷ front) r rs {saved} before is e = last_later front r rs _ is e
+last_later [] _ rs before is e = absurd (cc)
+last_later (Checkpoint deltas snapshot ∷ front) r rs before is e = last_later front r rs _ is e
+last_later (Transferred deltas snapshot ∷ front) r rs before is e = last_later front r rs _ is e
+last_later (_ ∷ front) r rs before is e = last_later front r rs before is e
 
 -- so it is the one that was read
 pub is_last : (service : Declarations) {last : Option ℕ} {all : List Rec} (front : List Rec) (r : Rec) (rs : List Rec) → all ≡ front ++ r ∷ rs → last ≡ bad_at (state_at service (snapshot_of (checkpoint all)))
@@ -88,26 +73,14 @@ is_last service {all} front r rs parts read = λ saved is none.
 -- so is the version of the last checkpoint, if there is one, where this record is the last one
 old_is : (before : Bool) (r : Rec) → old_behind before (get_or (record_bytes r) 0 0) (drop 9 (record_bytes r)) ≡ old_in before r
 old_is before (Promised ballot) = refl
-old_is before (Accepted ballot instance value) = refl
-old_is before (Known instance value) = refl
-old_is before (Checkpoint deltas snapshot) = refl
-old_is before (Dropped deltas) = refl
-old_is before (Transferred deltas snapshot) = refl
+old_is before _ = refl
 
 -- and whether a state comes behind the record, or is in it
 kind_of : (r : Rec) (later : Bool) → (later || is_state_kind (get_or (record_bytes r) 0 0)) ≡ (if is_state r then true else later)
 kind_of (Promised ballot) true = refl
 kind_of (Promised ballot) false = refl
-kind_of (Accepted ballot instance value) true = refl
-kind_of (Accepted ballot instance value) false = refl
-kind_of (Known instance value) true = refl
-kind_of (Known instance value) false = refl
-kind_of (Checkpoint deltas snapshot) true = refl
-kind_of (Checkpoint deltas snapshot) false = refl
-kind_of (Dropped deltas) true = refl
-kind_of (Dropped deltas) false = refl
-kind_of (Transferred deltas snapshot) true = refl
-kind_of (Transferred deltas snapshot) false = refl
+kind_of _ true = refl
+kind_of _ false = refl
 
 -- ---- one list of bytes
 
@@ -145,6 +118,10 @@ module _ {offset : ℕ} {kept : List (List ℕ)} {last : Option ℕ} {back index
     abbrev d : Rec
     d = Promised 0
 
+    -- the records that were looked into
+    abbrev behind : List Rec
+    behind = drop (length rs - back) rs
+
     long : length kept ≡ length rs
     long = many s
 
@@ -166,13 +143,13 @@ module _ {offset : ℕ} {kept : List (List ℕ)} {last : Option ℕ} {back index
     at : length rs - (back + 1) ≡ index
     at = omega (arith, few, index_is, long)
 
-    from_here : drop index rs ≡ r ∷ drop (length rs - back) rs
+    from_here : drop index rs ≡ r ∷ behind
     from_here = drop-cons rs index d there ∙ ap (λ n. r ∷ drop n rs) (sym after)
 
-    parts : drop (length rs - (back + 1)) rs ≡ r ∷ drop (length rs - back) rs
+    parts : drop (length rs - (back + 1)) rs ≡ r ∷ behind
     parts = ap (λ n. drop n rs) at ∙ from_here
 
-    whole : rs ≡ take index rs ++ r ∷ drop (length rs - back) rs
+    whole : rs ≡ take index rs ++ r ∷ behind
     whole = sym (take-append-drop index rs) ∙ ap (λ others. take index rs ++ others) from_here
 
     more_now : now_later ≡ has_state (drop (length rs - (back + 1)) rs)
@@ -181,7 +158,7 @@ module _ {offset : ℕ} {kept : List (List ℕ)} {last : Option ℕ} {back index
         ∙ ap has_state (sym parts)
 
     module _ (service : Declarations) (read : last ≡ bad_at (state_at service (snapshot_of (checkpoint rs)))) where
-      bad_here : bad ≡ bad_in service offset r (drop (length rs - back) rs)
+      bad_here : bad ≡ bad_in service offset r behind
       bad_here =
           bad_is_so ∙ ap (λ b. bad_behind last (get_or b 0 0) (is_held offset b) (drop 9 b) later) spelled
           ∙ ap (bad_behind last (get_or (record_bytes r) 0 0) (is_held offset (record_bytes r)) (drop 9 (record_bytes r))) (h.more rs s)
@@ -189,9 +166,9 @@ module _ {offset : ℕ} {kept : List (List ℕ)} {last : Option ℕ} {back index
 
       bad_now : now ≡ first_bad service offset (suc (length rs - (back + 1))) (drop (length rs - (back + 1)) rs)
       bad_now =
-          now_is ∙ ap (λ o. place_or (index + 1) o found) bad_here ∙ ap (place_or (index + 1) (bad_in service offset r (drop (length rs - back) rs))) (h.bad service rs s read)
-          ∙ ap (λ n. place_or n (bad_in service offset r (drop (length rs - back) rs)) (first_bad service offset (suc (length rs - back)) (drop (length rs - back) rs))) (let e : index + 1 ≡ suc (length rs - (back + 1)) = omega (arith, at) in e)
-          ∙ ap (λ n. place_or (suc (length rs - (back + 1))) (bad_in service offset r (drop (length rs - back) rs)) (first_bad service offset (suc n) (drop (length rs - back) rs))) (let e : length rs - back ≡ suc (length rs - (back + 1)) = omega (arith, at, after) in e)
+          now_is ∙ ap (λ o. place_or (index + 1) o found) bad_here ∙ ap (place_or (index + 1) (bad_in service offset r behind)) (h.bad service rs s read)
+          ∙ ap (λ n. place_or n (bad_in service offset r behind) (first_bad service offset (suc (length rs - back)) behind)) (let e : index + 1 ≡ suc (length rs - (back + 1)) = omega (arith, at) in e)
+          ∙ ap (λ n. place_or (suc (length rs - (back + 1))) (bad_in service offset r behind) (first_bad service offset (suc n) behind)) (let e : length rs - back ≡ suc (length rs - (back + 1)) = omega (arith, at, after) in e)
           ∙ ap (first_bad service offset (suc (length rs - (back + 1)))) (sym parts)
 
   pub looked_more : IsLooked offset kept last (back + 1) now now_later
@@ -243,17 +220,15 @@ good_more service rs none (inr h) = h
 last_good : (service : Declarations) (offset : ℕ) (rs : List Rec) (n : ℕ) {before : Option Saved} {saved : Saved} → first_bad service offset n rs ≡ None
     → fold (λ (b : Option Saved) x. Some x) before (filter_map checkpoint_in rs) ≡ Some saved → IsGood service rs before saved
 last_good service offset [] n good e = inl (refl, e)
-last_good service offset (Promised ballot ∷ rs) n {before} {saved} good e = last_good service offset rs (suc n) good e
-last_good service offset (Accepted ballot instance value ∷ rs) n {before} {saved} good e = last_good service offset rs (suc n) good e
 last_good service offset (Known instance value ∷ rs) n {before} {saved} good e =
     last_good service offset rs (suc n) (none_of n _ good).1 e
 last_good service offset (Checkpoint deltas snapshot ∷ rs) n {saved} good e =
     let parts = none_of n _ good in
     inr (good_more service rs parts.0 (last_good service offset rs (suc n) parts.1 e))
-last_good service offset (Dropped deltas ∷ rs) n {before} {saved} good e = last_good service offset rs (suc n) good e
 last_good service offset (Transferred deltas snapshot ∷ rs) n {saved} good e =
     let parts = none_of n _ good in
     inr (good_more service rs parts.0 (last_good service offset rs (suc n) parts.1 e))
+last_good service offset (_ ∷ rs) n good e = last_good service offset rs (suc n) good e
 
 -- so it is of all records
 pub saved_good : (service : Declarations) (offset : ℕ) (rs : List Rec) {snapshot : List ℕ} → first_bad service offset 1 rs ≡ None → snapshot_of (checkpoint rs) ≡ Some snapshot → IsOk (state_in service snapshot)

@@ -1,5 +1,5 @@
 -- A majority accepted the value of the next instance: the node knows it.
-use Rattle.rex_node.proofs.Common.{◌≡◌, ℕ, suc, ◌+◌, ◌<◌, ◌≤◌, Bool, true, not, List, [], ◌∷◌, ◌++◌, length, take, Option, Some, None, inr, refl, sym, ap, subst, ◌∙◌, arith, map, is_some, option_map, IfSome, IsSome, unwrap_or, false≢true, take-append-le, most_nodes, IsValue, AcceptorValue, ProposerValue, closed, counted_none, Declarations, IsService, Event, is_below, below, beyond, StateValue, noting, start_of, run, GoesFirst, run-then, run_keeps, cuts_go_first, IsRecorder, Answer, KeptRec, HasSpelling, record_bytes, Rec, Proposal, known, Known, Failure, Lead, Work, Chose, LeadFits, RoleFits, decide, learned, leading, logged, others, released, send, Value, events_of, release_effect, service_of, trace_of, values_fit, CallHere, trace_push, length_push, Going, On, Down, Draft, content_in, message_in, log_of, NodeValue, ActingValue, Executes, HasStamps, IsActing, IsProposer, NumbersReplies, Proposes, IsCutAt, IsUp, IsKept, Keeps, Falls, ahead_of, here_of, lead_of, role_of, work_of, HasDecoded, HasReached, armed_with, Appends, BreaksOff, Comes, LosesFirst, so_far, IsOwnCut, Learns, LearnsShort, knowing, replayed_to, settling}
+use Rattle.rex_node.proofs.Common.{◌≡◌, ℕ, ◌+◌, ◌<◌, ◌≤◌, Bool, true, not, List, [], ◌∷◌, ◌++◌, length, take, Option, Some, None, inr, refl, sym, ap, subst, ◌∙◌, arith, map, is_some, option_map, IfSome, IsSome, unwrap_or, false≢true, take-append-le, IsValue, AcceptorValue, ProposerValue, closed, counted_none, Declarations, IsService, Event, is_below, below, beyond, StateValue, noting, start_of, run, GoesFirst, run-then, run_keeps, cuts_go_first, IsRecorder, Answer, HasSpelling, record_bytes, Rec, Proposal, known, Failure, Lead, Work, Chose, LeadFits, learned, leading, others, released, send, Value, events_of, release_effect, service_of, trace_of, values_fit, CallHere, trace_push, length_push, Going, On, Down, Draft, content_in, message_in, log_of, NodeValue, ActingValue, Executes, HasStamps, IsActing, IsProposer, NumbersReplies, Proposes, IsCutAt, IsUp, IsKept, ahead_of, here_of, lead_of, work_of, armed_with, Appends, so_far, IsOwnCut, Learns, LearnsShort, knowing, replayed_to, settling, Service}
 use Rattle.std.proofs.Common.{filter}
 use Rattle.std.proofs.lemmas.List.Sums.{length-filter, count_by-le-length}
 use Rattle.rex_ballot.specs.Ballot as ballots
@@ -11,12 +11,13 @@ use Rattle.rex_report.specs.declared.effect.Effect.TheVariants as effect
 use Rattle.rex_msg.specs.declared.message.Content.TheVariants as sent
 use Rattle.rex_cluster.specs.Calls.{replayed_known, work_known}
 use Rattle.rex_node.specs.Leading.{CanSettle, releases_in}
-use Rattle.rex_node.proofs.Appended.{instance_fits, logged_known, logged_of, beside_of, up_of, IsLogged, Beside}
+use Rattle.rex_node.proofs.Appended.{appended_breaks, appended_fell, appended_leads, appended_log, call_at, instance_fits, logged_known, logged_of, beside_of, up_of, IsLogged, Beside, logged_as, lead_fits_of}
 use Rattle.rex_node.proofs.Executing.{start_is}
 use Rattle.rex_node.proofs.GoingLemmas.{leads_same, leads_then}
-use Rattle.rex_node.proofs.Opening.{logged_as, some_of}
+use Rattle.rex_node.proofs.Opening.{some_if, some_of}
 use Rattle.rex_node.proofs.Stamping.{noted_next}
-use Rattle.rex_node.proofs.Written.{appends_as, call_is, log_written, written_on, written_down, broken_written}
+use Rattle.rex_node.proofs.Promises.{appends_at}
+use Rattle.rex_node.proofs.Written.{call_is}
 use Rattle.rex_node.proofs.Reaching.{still_reached}
 
 -- ---- what is executed
@@ -65,28 +66,23 @@ module _ {service : Declarations} (good : IsService service) {values : List Valu
 -- ---- a node that executes, or doesn't
 
 module _ {service : Declarations} (good : IsService service) (seed : ℕ) (values : List Value) (acceptor : AcceptorValue) (p : ProposerValue) (v : Value) where
-  abbrev IsCut : Option ActingValue → Type 0
-  IsCut w = IfSome w (λ a. IsCutAt service values a v)
+  -- what comes of what is executed where the value is a cut of it
+  record SettlesWith (w : Option ActingValue) : Type 0 where
+    pub can : IfSome w (CanSettle service)
+    pub acting : IsActing service (values ++ v ∷ []) acceptor (Some (closed p)) (option_map (settling service) w)
+    pub stamps : length values < 65535 → HasStamps values w → HasStamps (values ++ v ∷ []) (option_map (settling service) w)
+    pub work : work_known (service_of service seed) (is_some w) (values ++ v ∷ []) (work_of w) ≡ work_of (option_map (settling service) w)
+    pub replies : released (service_of service seed) (is_some w) values v ≡ releases_in w
 
-  can_settle : (w : Option ActingValue) → IsActing service values acceptor (Some p) w → IsCut w → IfSome w (CanSettle service)
-  can_settle None h c = tt
-  can_settle (Some a) h c = record { recorder = h.executes.recorder; consistent = c.consistent }
-
-  acting_known : (w : Option ActingValue) → IsActing service values acceptor (Some p) w → IsCut w → IsActing service (values ++ v ∷ []) acceptor (Some (closed p)) (option_map (settling service) w)
-  acting_known None h c = tt
-  acting_known (Some a) h c = record { executes = executes_settled good h.executes c; open_is_cut = tt }
-
-  stamped_known : (w : Option ActingValue) → length values < 65535 → HasStamps values w → IsCut w → HasStamps (values ++ v ∷ []) (option_map (settling service) w)
-  stamped_known None few h c = tt
-  stamped_known (Some a) few h c = subst (λ es. NumbersReplies (values ++ v ∷ []) (noting a.answers es)) c.events (noted_next h few v)
-
-  work_is : (w : Option ActingValue) → IsActing service values acceptor (Some p) w → IsCut w → work_known (service_of service seed) (is_some w) (values ++ v ∷ []) (work_of w) ≡ work_of (option_map (settling service) w)
-  work_is None h c = refl
-  work_is (Some a) h c = work_settled good h.executes c seed
-
-  released_are : (w : Option ActingValue) → IsActing service values acceptor (Some p) w → IsCut w → released (service_of service seed) (is_some w) values v ≡ releases_in w
-  released_are None h c = refl
-  released_are (Some a) h c = released_settled good h.executes c seed
+  settles_with : (w : Option ActingValue) → IsActing service values acceptor (Some p) w → IfSome w (λ (a : ActingValue). IsCutAt service values a v) → SettlesWith w
+  settles_with None h c = record { can = tt; acting = tt; stamps = λ few s. tt; work = refl; replies = refl }
+  settles_with (Some a) h c = record {
+    can = record { recorder = h.executes.recorder; consistent = c.consistent };
+    acting = record { executes = executes_settled good h.executes c; open_is_cut = tt };
+    stamps = λ few s. subst (λ es. NumbersReplies (values ++ v ∷ []) (noting a.answers es)) c.events (noted_next s few v);
+    work = work_settled good h.executes c seed;
+    replies = released_settled good h.executes c seed;
+  }
 
 active_same : (service : Declarations) (w : Option ActingValue) → is_some (option_map (settling service) w) ≡ is_some w
 active_same service None = refl
@@ -135,154 +131,120 @@ ahead_known service values v (Some a) i ahead start few h e = absurd (cc)
 
 -- ---- a node that learns
 
-module _ {K : Type 0} (records : K → List (List ℕ)) (gives : K → List ℕ → Answer → K → Type 0) (faults : K → ℕ) {service : Declarations} (past : List Value) (good : IsService service) {x : NodeValue K} (u : IsUp service x (here_of records service past x)) (id : (0 < x.id) × (x.id ≤ x.nodes)) (few : x.nodes ≤ most_nodes) (reached : HasReached service x.offset x.known x.reached) (decoded : HasDecoded service x.decoded)
-    {p : ProposerValue} (e : x.proposer ≡ Some p) {i : ℕ} {v : Value} (next : i ≡ length x.known + 1) (there : ballots.IsInstance i) (short : IsValue v) (fits : values_fit service (x.known ++ v ∷ []) ≡ true) (cut : IsOwnCut service x v) where
+module _ {K : Type 0} {records : K → List (List ℕ)} (gives : K → List ℕ → Answer → K → Type 0) (faults : K → ℕ) {service : Declarations} {past : List Value} (good : IsService service) {x : NodeValue K} (kept_so : IsKept records service past x) (up : x.up ≡ true) (leads : IsSome x.proposer)
+    {i : ℕ} {v : Value} (next : i ≡ length x.known + 1) (there : ballots.IsInstance i) (short : IsValue v) (fits : values_fit service (x.known ++ v ∷ []) ≡ true) (cut : IsOwnCut service x v) where
   abbrev log : List (Rec Value StateValue)
   log = log_of service past (records x.keeper)
+
+  abbrev sv : Service Value StateValue
+  sv = service_of service x.seed
+
+  u : IsUp service x (here_of records service past x)
+  u = kept_so.up up
+
+  -- what it leads with
+  abbrev p : ProposerValue
+  p = (some_of x.proposer leads).0
+
+  p_is : x.proposer ≡ Some p
+  p_is = (some_of x.proposer leads).1
 
   abbrev lead : Lead Value
   lead = lead_of x.acceptor p (is_some x.acting)
 
-  place : i ≡ suc (length x.known)
-  place = omega (arith, next)
-
-  due : i ≡ length (known (log_of service past (records x.keeper))) + 1
+  due : i ≡ length (known log) + 1
   due = next ∙ ap (λ vs. length vs + 1) u.known
 
-  acting : IsActing service x.known x.acceptor (Some p) x.acting
-  acting = subst (λ o. IsActing service x.known x.acceptor o x.acting) e u.acting
+  settled : SettlesWith good x.seed x.known x.acceptor p v x.acting
+  settled = settles_with good x.seed x.known x.acceptor p v x.acting (subst (λ o. IsActing service x.known x.acceptor o x.acting) p_is u.acting) cut
 
-  abbrev spelled : HasSpelling (kept.Known i v)
+  spelled : HasSpelling (kept.Known i v)
   spelled = record { in_range = (there, short) }
 
-  abbrev z_at : K → NodeValue K
-  z_at keeper = record x { keeper = keeper; known = x.known ++ v ∷ []; replayed = replayed_to x.acting i x.replayed; proposer = Some (closed p); acting = option_map (settling service) x.acting }
-
-  module _ (keeper : K) (grown : records keeper ≡ records x.keeper ++ record_bytes (kept.Known i v) ∷ []) where
-    log_is : log_of service past (records keeper) ≡ Known i v ∷ log
-    log_is = log_written records gives faults past u spelled due refl grown
-
-    z_logged : IsLogged service (z_at keeper) (log_of service past (records keeper))
-    z_logged = subst (IsLogged service (z_at keeper)) (sym log_is)
-        (logged_as refl refl refl refl refl refl
-        (logged_known (logged_of records service past x u) place (instance_fits there) fits))
-
-    z_beside : Beside records service past (z_at keeper)
-    z_beside =
-        let b = beside_of records service past x u in
-        let based : x.base ≤ x.replayed = b.based in
-        let replayed : x.replayed ≤ length x.known = b.replayed in
-        record {
-          based = replayed_from x.acting next based replayed;
-          replayed = subst (λ n. replayed_to x.acting i x.replayed ≤ n) (let n : length x.known + 1 ≡ length (x.known ++ v ∷ []) = omega (arith, length_push x.known v) in n) (replayed_most x.acting next replayed);
-          ahead = ahead_known service x.known v x.acting i x.ahead x.start replayed b.ahead;
-          caught_up = known_all service x.acting _ _ next (omega (arith, length_push x.known v));
-          proposer = proposes_closed (subst (IsProposer x.nodes x.id x.acceptor) e b.proposer);
-          acting = acting_known good seed_any x.known x.acceptor p v x.acting acting cut;
-          stamped = stamped_known good seed_any x.known x.acceptor p v x.acting (let last = there.last in omega (arith, next, last)) b.stamped cut;
-          role = lead_closed x.acceptor p
-              (subst (λ o. RoleFits (length x.known) (role_of x.acceptor o (is_some x.acting))) e b.role);
-        }
-      where
-        seed_any : ℕ
-        seed_any = x.seed
-
-    z_kept : IsKept records service past (z_at keeper)
-    z_kept = record { id = id; few = few; up = λ t. up_of records service past _ z_logged z_beside; reached = still_reached service x.offset x.reached (omega (arith, length_push x.known v)) (λ n l. take-append-le n x.known (v ∷ []) l) reached; decoded = decoded }
-
-    -- the model's call comes to the same
-    z_comes : (before after : Draft) {f : Option Failure} → after.effects.items ≡ before.effects.items ++ effect.Known x.id i ∷ releases_in x.acting → map (message_in past) after.sends.items ≡ map (message_in past) before.sends.items ++ others x.nodes x.id (Chose i v)
-        → send (learned (service_of service x.seed) x.id lead i v (known log) (armed_with f (logged (Known i v) None (so_far records service past x before)))) (others x.nodes x.id (Chose i v))
-        ≡ armed_with f (so_far records service past (z_at keeper) after)
-    z_comes before after {f} effects sends =
-        call_is
-        (sym log_is)
-        (ap (λ vs. work_known (service_of service x.seed) (is_some x.acting) (vs ++ v ∷ []) (work_of x.acting)) (sym u.known) ∙ work_is good x.seed x.known x.acceptor p v x.acting acting cut)
-        (replayed_same x.acting i _)
-        (sym sends)
-        (ap (λ es. before.effects.items ++ (effect.Known x.id i ∷ es)) (ap (λ vs. released (service_of service x.seed) (is_some x.acting) vs v) (sym u.known) ∙ released_are good x.seed x.known x.acceptor p v x.acting acting cut) ∙ sym effects)
-        ∙ ap (λ t. record (armed_with f (so_far records service past (z_at keeper) after)) { node = record (armed_with f (so_far records service past (z_at keeper) after)).node { role = leading lead None [] t } }) (sym (active_same service x.acting))
-
-  abbrev whole : (CallHere → CallHere) → CallHere → CallHere
-  whole k d = decide x.nodes (service_of service x.seed) x.id d lead i v k
-
-  abbrev rest : (CallHere → CallHere) → CallHere → CallHere
-  rest k d = k (send (learned (service_of service x.seed) x.id lead i v (known log) d) (others x.nodes x.id (Chose i v)))
-
-  -- the call goes on with the value known
-  learns_on : (up : x.up ≡ true) {y z : NodeValue K} (before mid after : Draft) → Keeps records faults gives x y (record_bytes (kept.Known i v)) → mid.effects.items ≡ before.effects.items → mid.sends.items ≡ before.sends.items
-      → z ≡ knowing service y i v → after.effects.items ≡ mid.effects.items ++ effect.Known y.id i ∷ releases_in y.acting → map (message_in past) after.sends.items ≡ map (message_in past) mid.sends.items ++ others y.nodes y.id (Chose i v)
-      → Learns records gives faults service past i v x z before after On
-  learns_on up {y} {z} before mid after h effects sends z_is more_effects more_sends =
-      subst (λ o. IfSome o (λ q. (k : CallHere → CallHere) → Comes records gives faults service past (λ d. decide x.nodes (service_of service x.seed) x.id d (lead_of x.acceptor q (is_some x.acting)) i v k) k x z before after On)) (sym e)
-      (λ k. subst (λ n. Comes records gives faults service past (whole k) k x n before after On) (sym all) (
-        leads_then records gives faults service
-            (written_on records gives faults past u spelled due refl y before (rest k) (λ f. refl) h)
-            (leads_same records gives faults service (ap length (log_is y.keeper h.records))
-            (λ f. ap k (z_comes y.keeper h.records before after effects_are sends_are))),
-        z_kept y.keeper h.records,
-        up,
-      ))
-    where
-      y_is : y ≡ record x { keeper = y.keeper }
-      y_is = h.parts
-
-      all : z ≡ z_at y.keeper
-      all = z_is ∙ ap (λ n. knowing service n i v) y_is ∙ ap (λ o. record (knowing service (record x { keeper = y.keeper }) i v) { proposer = option_map closed o }) e
-
-      effects_are : after.effects.items ≡ before.effects.items ++ effect.Known x.id i ∷ releases_in x.acting
-      effects_are = more_effects ∙ ap (λ n. mid.effects.items ++ effect.Known n.id i ∷ releases_in n.acting) y_is ∙ ap (λ es. es ++ effect.Known x.id i ∷ releases_in x.acting) effects
-
-      sends_are : map (message_in past) after.sends.items ≡ map (message_in past) before.sends.items ++ others x.nodes x.id (Chose i v)
-      sends_are = more_sends ∙ ap (λ n. map (message_in past) mid.sends.items ++ others n.nodes n.id (Chose i v)) y_is ∙ ap (λ ms. map (message_in past) ms ++ others x.nodes x.id (Chose i v)) sends
-
-  -- or the node is down
-  learns_down : {y : NodeValue K} (before after : Draft) → Falls records faults gives x y (record_bytes (kept.Known i v)) → after.effects.items ≡ before.effects.items ++ effect.Down x.id ∷ [] → after.sends.items ≡ []
-      → Learns records gives faults service past i v x y before after Down
-  learns_down {y} before after h effects sends =
-      subst (λ o. IfSome o (λ q. (k : CallHere → CallHere) → Comes records gives faults service past (λ d. decide x.nodes (service_of service x.seed) x.id d (lead_of x.acceptor q (is_some x.acting)) i v k) k x y before after Down)) (sym e)
-      (λ k. written_down records gives faults past u spelled due refl y before (rest k) (λ f. refl) after refl h effects sends k)
-
-  -- or memory was short with the known value written down
-  learns_broken : {y z : NodeValue K} (before : Draft) → Keeps records faults gives x y (record_bytes (kept.Known i v)) → z.keeper ≡ y.keeper → z.base ≡ y.base → LearnsShort records gives faults service past i v x z before
-  learns_broken {y} {z} before h keeper based =
-      inr (subst (λ o. IfSome o (λ q. (k : CallHere → CallHere) → LosesFirst k → BreaksOff records gives faults service past (λ d. decide x.nodes (service_of service x.seed) x.id d (lead_of x.acceptor q (is_some x.acting)) i v k) x z before)) (sym e)
-      (λ k loses. broken_written records gives faults past u spelled due refl y before (rest k) (λ f. refl) refl h keeper based
-      (λ d. loses (send (learned (service_of service x.seed) x.id lead i v (known log) d) (others x.nodes x.id (Chose i v))))))
-
--- ---- the same of the call
-
-module _ {K : Type 0} {records : K → List (List ℕ)} (gives : K → List ℕ → Answer → K → Type 0) (faults : K → ℕ) {service : Declarations} {past : List Value} (good : IsService service) {x : NodeValue K} (kept_so : IsKept records service past x) (up : x.up ≡ true) (leads : IsSome x.proposer)
-    {i : ℕ} {v : Value} (next : i ≡ length x.known + 1) (there : ballots.IsInstance i) (short : IsValue v) (fits : values_fit service (x.known ++ v ∷ []) ≡ true) (cut : IsOwnCut service x v) where
   -- its recorder can settle
   pub learn_settles : {y : NodeValue K} → y ≡ record x { keeper = y.keeper } → IfSome y.acting (CanSettle service)
-  learn_settles y_is =
-      let s = some_of _ leads in
-      subst (λ n. IfSome n.acting (CanSettle service)) (sym y_is)
-      (can_settle good x.seed x.known x.acceptor s.0 v x.acting (subst (λ o. IsActing service x.known x.acceptor o x.acting) s.1 (kept_so.up up).acting) cut)
+  learn_settles y_is = subst (λ n. IfSome n.acting (CanSettle service)) (sym y_is) settled.can
 
   module _ {w : Value} (w_is : w ≡ v) (y : NodeValue K) (before mid : Draft) (g : Going) (h : Appends records faults gives x y before mid (record_bytes (kept.Known i w)) g) where
-    same_rec : (let r : KeptRec = kept.Known i w in r) ≡ kept.Known i v
-    same_rec = ap (λ z. kept.Known i z) w_is
+    as_own : {now : Going} → g ≡ now → Appends records faults gives x y before mid (record_bytes (kept.Known i v)) now
+    as_own e = appends_at records gives faults x y before mid (kept.Known i w) (ap (λ z. kept.Known i z) w_is) e h
+
+    -- what is left of the call after the append
+    abbrev tells : (CallHere → CallHere) → CallHere → CallHere
+    tells k d = k (send (learned sv x.id lead i v (known log) d) (others x.nodes x.id (Chose i v)))
 
     pub learn_parts : g ≡ On → y ≡ record x { keeper = y.keeper }
-    learn_parts e = let k : Appends records faults gives x y before mid (record_bytes (kept.Known i v)) On = appends_as records gives faults x y before mid same_rec e h in k.0.parts
+    learn_parts e = (as_own e).0.parts
 
+    -- the node is down
     pub learn_down : g ≡ Down → Learns records gives faults service past i v x y before mid Down
     learn_down e =
-        let s = some_of _ leads in
-        let k : Appends records faults gives x y before mid (record_bytes (kept.Known i v)) Down = appends_as records gives faults x y before mid same_rec e h in
-        learns_down records gives faults past good (kept_so.up up) kept_so.id kept_so.few kept_so.reached kept_so.decoded s.1 next there short fits cut before mid k.0 k.1 k.2
+        let d = as_own e in
+        some_if _ p_is
+        (λ k. (appended_fell records gives faults service past x y before mid spelled due refl {k = tells k} (λ f. refl) u.base refl d, record { down = ap (λ n. n.up) d.0.parts; bare = ap (λ n. n.reached) d.0.parts }))
 
-    pub learn_on : g ≡ On → {z : NodeValue K} (after : Draft) → z ≡ knowing service y i v → after.effects.items ≡ mid.effects.items ++ effect.Known y.id i ∷ releases_in y.acting → map (message_in past) after.sends.items ≡ map (message_in past) mid.sends.items ++ others y.nodes y.id (content_in past (sent.Chosen i v))
-        → Learns records gives faults service past i v x z before after On
-    learn_on e {z} after z_is effects sends =
-        let s = some_of _ leads in
-        let k : Appends records faults gives x y before mid (record_bytes (kept.Known i v)) On = appends_as records gives faults x y before mid same_rec e h in
-        learns_on records gives faults past good (kept_so.up up) kept_so.id kept_so.few kept_so.reached kept_so.decoded s.1 next there short fits cut up before mid after k.0 k.1 k.2 z_is effects sends
+    module _ (e : g ≡ On) where
+      on : Appends records faults gives x y before mid (record_bytes (kept.Known i v)) On
+      on = as_own e
 
-    pub learn_stuck : g ≡ On → {z : NodeValue K} → z.keeper ≡ y.keeper → z.base ≡ y.base → LearnsShort records gives faults service past i v x z before
-    learn_stuck e {z} keeper based =
-        let s = some_of _ leads in
-        let k : Appends records faults gives x y before mid (record_bytes (kept.Known i v)) On = appends_as records gives faults x y before mid same_rec e h in
-        learns_broken records gives faults past good (kept_so.up up) kept_so.id kept_so.few kept_so.reached kept_so.decoded s.1 next there short fits cut before k.0 keeper based
+      abbrev z_at : NodeValue K
+      z_at = record x { keeper = y.keeper; known = x.known ++ v ∷ []; replayed = replayed_to x.acting i x.replayed; proposer = Some (closed p); acting = option_map (settling service) x.acting }
+
+      z_logged : IsLogged service z_at (log_of service past (records y.keeper))
+      z_logged =
+          subst (IsLogged service z_at) (sym (appended_log records gives faults service past x y before mid spelled due refl on))
+          (logged_as refl (logged_known (logged_of records service past x u) (omega (arith, next)) (instance_fits there) fits))
+
+      z_beside : Beside records service past z_at
+      z_beside =
+          let b = beside_of records service past x u in
+          let based : x.base ≤ x.replayed = b.based in
+          let replayed : x.replayed ≤ length x.known = b.replayed in
+          record {
+            based = replayed_from x.acting next based replayed;
+            replayed = subst (λ n. replayed_to x.acting i x.replayed ≤ n) (let n : length x.known + 1 ≡ length (x.known ++ v ∷ []) = omega (arith, length_push x.known v) in n) (replayed_most x.acting next replayed);
+            ahead = ahead_known service x.known v x.acting i x.ahead x.start replayed b.ahead;
+            caught_up = known_all service x.acting _ _ next (omega (arith, length_push x.known v));
+            proposer = proposes_closed (subst (IsProposer x.nodes x.id x.acceptor) p_is b.proposer);
+            acting = settled.acting;
+            stamped = settled.stamps (let last = there.last in omega (arith, next, last)) b.stamped;
+            role = lead_closed x.acceptor p (lead_fits_of records past u p_is);
+          }
+
+      z_kept : IsKept records service past z_at
+      z_kept = record { id = kept_so.id; few = kept_so.few; up = λ t. up_of records service past _ z_logged z_beside; reached = still_reached service x.offset x.reached (omega (arith, length_push x.known v)) (λ n l. take-append-le n x.known (v ∷ []) l) kept_so.reached; decoded = kept_so.decoded }
+
+      -- the call goes on with the value known
+      pub learn_on : {z : NodeValue K} (after : Draft) → z ≡ knowing service y i v → after.effects.items ≡ mid.effects.items ++ effect.Known y.id i ∷ releases_in y.acting → map (message_in past) after.sends.items ≡ map (message_in past) mid.sends.items ++ others y.nodes y.id (content_in past (sent.Chosen i v))
+          → Learns records gives faults service past i v x z before after On
+      learn_on {z} after z_is effects sends =
+          subst (λ n. Learns records gives faults service past i v x n before after On) (sym all)
+          (some_if _ p_is
+          (λ k. (
+            leads_then (appended_leads records gives faults service past x y before mid spelled due refl {k = tells k} (λ f. refl) on)
+                (leads_same refl (λ f. ap k (comes f))),
+            z_kept,
+            up,
+          )))
+        where
+          all : z ≡ z_at
+          all = z_is ∙ ap (λ n. knowing service n i v) on.0.parts ∙ ap (λ o. record (knowing service (record x { keeper = y.keeper }) i v) { proposer = option_map closed o }) p_is
+
+          -- the model's call comes to the same
+          comes : (f : Option Failure) → tells (λ d. d) (armed_with f (so_far records service past y mid)) ≡ armed_with f (so_far records service past z_at after)
+          comes f =
+              ap (λ n. tells (λ d. d) (armed_with f (call_at (here_of records service past n) (map (message_in past) mid.sends.items) mid.effects.items))) on.0.parts
+              ∙ call_is
+              refl
+              (ap (λ vs. work_known sv (is_some x.acting) (vs ++ v ∷ []) (work_of x.acting)) (sym u.known) ∙ settled.work)
+              (replayed_same x.acting i _)
+              (sym (sends ∙ ap (λ n. map (message_in past) mid.sends.items ++ others n.nodes n.id (Chose i v)) on.0.parts))
+              (ap (λ es. mid.effects.items ++ (effect.Known x.id i ∷ es)) (ap (λ vs. released sv (is_some x.acting) vs v) (sym u.known) ∙ settled.replies)
+              ∙ sym (effects ∙ ap (λ n. mid.effects.items ++ effect.Known n.id i ∷ releases_in n.acting) on.0.parts))
+              ∙ ap (λ t. record (armed_with f (so_far records service past z_at after)) { node = record (armed_with f (so_far records service past z_at after)).node { role = leading lead None [] t } }) (sym (active_same service x.acting))
+
+      -- or memory was short with the known value written down
+      pub learn_stuck : {z : NodeValue K} → z.keeper ≡ y.keeper → z.base ≡ y.base → LearnsShort records gives faults service past i v x z before
+      learn_stuck keeper based =
+          inr (some_if _ p_is
+          (λ k loses. appended_breaks records gives faults service past x y before mid spelled due refl {k = tells k} (λ f. refl) on (λ d. loses (send (learned sv x.id lead i v (known log) d) (others x.nodes x.id (Chose i v)))) keeper (based ∙ ap (λ n. n.base) on.0.parts ∙ u.base)))

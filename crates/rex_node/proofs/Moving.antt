@@ -1,5 +1,5 @@
 -- A node takes over the state after so many values, of which it knows fewer.
-use Rattle.rex_node.proofs.Common.{◌≡◌, ℕ, suc, ◌+◌, ◌<◌, ◌≤◌, Bool, true, false, cond, leb, List, [], ◌∷◌, ◌++◌, length, Ok, Option, Some, None, inl, inr, refl, sym, ap, subst, ◌∙◌, arith, le_refl, map, is_ok, is_some, nat_lt, if◌then◌else◌, false≢true, leb-true, leb-false, le-leb, le-ltb, lt-ltb, lt-leb, take_all, All-filter, IsInstance, Kept, IsValue, AcceptorValue, forgetting, ProposerValue, Declarations, StateValue, start_of, run, state_in, Answer, KeptRec, HasSpelling, IsDue, record_bytes, Effect, Rec, Proposal, base, known, last_accepted, from_on, Failure, Message, Work, down_node, is_active, no_work, append, follow, followed, logged, on_snapshot, replayed_left, say, work_left, Value, service_of, trace_of, values_fit, CallHere, state_is, length_push, first, log_of, proposal_in, read_state, rec_of, standing_in, message_in, above_from, first_length, log_then, On, Down, Draft, is_stated, fallen_moved, NodeValue, IsResting, IsUp, ahead_left, failed_records, fallen, here_of, leaving, role_of, work_of, IsDown, armed_with, Appends, Fell, IsStuck, Leads, RunsOn, Tells, so_far}
+use Rattle.rex_node.proofs.Common.{◌≡◌, ℕ, suc, ◌+◌, ◌<◌, ◌≤◌, Bool, true, false, cond, leb, List, [], ◌∷◌, ◌++◌, length, Ok, Option, Some, None, inr, refl, sym, ap, subst, ◌∙◌, arith, le_refl, map, is_ok, is_some, nat_lt, if◌then◌else◌, false≢true, leb-true, leb-false, le-leb, le-ltb, lt-ltb, lt-leb, take_all, All-filter, IsInstance, Kept, IsValue, AcceptorValue, forgetting, ProposerValue, Declarations, StateValue, start_of, run, state_in, Answer, KeptRec, HasSpelling, IsDue, record_bytes, Effect, Rec, Proposal, known, last_accepted, from_on, Failure, Message, Work, is_active, no_work, append, follow, followed, logged, on_snapshot, replayed_left, say, work_left, Value, service_of, trace_of, values_fit, CallHere, state_is, length_push, first, log_of, proposal_in, read_state, rec_of, standing_in, message_in, above_from, first_length, log_then, On, Down, Draft, is_stated, fallen_moved, NodeValue, IsResting, IsUp, ahead_left, failed_records, fallen, here_of, leaving, role_of, work_of, armed_with, Appends, Fell, IsStuck, RunsOn, Tells, so_far, Ends, nat_le}
 use Rattle.std.proofs.lemmas.List.{append-nil}
 use Rattle.rex_ballot.specs.Proposals.{above}
 use Rattle.rex_durable.specs.declared.records.Rec.TheVariants as kept
@@ -7,10 +7,10 @@ use Rattle.rex_report.specs.declared.effect.Effect.TheVariants as effect
 use Rattle.rex_cluster.specs.Records.Rec.{Transferred}
 use Rattle.rex_cluster.specs.Calls.{with_replayed}
 use Rattle.rex_node.specs.Telling.{LeadTo}
-use Rattle.rex_node.proofs.Appended.{IsLogged, appended_here, appended_leads, appended_log, call_at, logged_of, up_of}
-use Rattle.rex_node.proofs.Following.{EndsWell, ends_same, far, within}
-use Rattle.rex_node.proofs.Stuck.{breaks_here}
-use Rattle.rex_node.proofs.GoingLemmas.{fell_append, leads_same, leads_then}
+use Rattle.rex_node.proofs.Appended.{IsLogged, appended_log, call_at, logged_of, up_of, appended_breaks, fell_here}
+use Rattle.rex_node.proofs.Following.{EndsWell, ends_same, far}
+use Rattle.rex_node.proofs.Recorded.{recorded_on}
+use Rattle.rex_node.proofs.GoingLemmas.{fell_append}
 use Rattle.rex_node.proofs.Leaving.{no_work_left, role_active}
 
 -- ---- what was accepted
@@ -49,39 +49,42 @@ module _ {K : Type 0} {records : K → List (List ℕ)} (gives : K → List ℕ 
   abbrev log : List (Rec Value StateValue)
   log = log_of service past (records x.keeper)
 
+  abbrev begun : CallHere
+  begun = so_far records service past x before
+
   abbrev r : KeptRec
   r = kept.Transferred k bytes
 
   abbrev said : Rec Value StateValue
-  said = Transferred (first k past) (read_state service (state_in service bytes))
+  said = Transferred values (read_state service (state_in service bytes))
 
-  long : length (first k past) ≡ k
+  long : length values ≡ k
   long = first_length k past
 
   spelling : HasSpelling r
   spelling = record { in_range = (there, short) }
 
-  due : IsDue (standing_in (log_of service past (records x.keeper))) r
+  due : IsDue (standing_in log) r
   due = subst (λ vs. length vs < k) u.known more
 
   stated : is_stated service (record_bytes r) ≡ true
   stated = ap (λ q. is_ok q) spelled
 
   abbrev call : CallHere → CallHere
-  call = on_snapshot (service_of service x.seed) x.id (first k past)
+  call = on_snapshot (service_of service x.seed) x.id values
 
   abbrev rest : CallHere → CallHere
-  rest e = follow x.id (effect.Transferred x.id (length (first k past)) ∷ []) (with_replayed (length (first k past)) e)
+  rest e = follow x.id (effect.Transferred x.id (length values) ∷ []) (with_replayed (length values) e)
 
-  call_is : (f : Option Failure) → call (armed_with f (so_far records service past x before)) ≡ append f x.id (rec_of service past r) (armed_with f (so_far records service past x before)) rest
+  call_is : (f : Option Failure) → call (armed_with f begun) ≡ append f x.id (rec_of service past r) (armed_with f begun) rest
   call_is f =
-      ap (λ t. cond t (say (effect.IgnoredInstance (length (first k past)) (suc (length (known log)))) d) (append f x.id (Transferred (first k past) ((service_of service x.seed).state (first k past))) d rest))
-      (lt-leb (length (first k past)) (length (known log)) (omega (arith, long, more, ap (λ vs. length vs) u.known)))
-      ∙ ap (λ t. append f x.id (Transferred (first k past) t) d rest)
+      ap (λ t. cond t (say (effect.IgnoredInstance (length values) (suc (length (known log)))) d) (append f x.id (Transferred values ((service_of service x.seed).state values)) d rest))
+      (lt-leb (length values) (length (known log)) (omega (arith, long, more, ap (λ vs. length vs) u.known)))
+      ∙ ap (λ t. append f x.id (Transferred values t) d rest)
       (state_is service _ s leads ∙ sym (ap (λ q. read_state service q) spelled))
     where
       d : CallHere
-      d = armed_with f (so_far records service past x before)
+      d = armed_with f begun
 
   -- ---- its append failed
 
@@ -90,36 +93,14 @@ module _ {K : Type 0} {records : K → List (List ℕ)} (gives : K → List ℕ 
     kept_is true e = lt-ltb (length (records x.keeper)) (length (records y.keeper)) (omega (arith, ap length e, length_push (records x.keeper) (record_bytes r)))
     kept_is false e = le-ltb (length (records x.keeper)) (length (records y.keeper)) (omega (arith, ap length e))
 
-    abbrev fell_at : Bool → K → NodeValue K
-    fell_at b j = record (fallen x) { keeper = j; base = if b then k else x.base; replayed = if b then k else x.base }
-
-    z_at : z ≡ fell_at h.0.kept y.keeper
+    z_at : z ≡ record (fallen (record x { base = if h.0.kept then k else x.base })) { keeper = y.keeper }
     z_at = z_is ∙ ap (λ b. fallen_moved b y k) (kept_is h.0.kept h.0.records) ∙ ap (λ n. fallen_moved h.0.kept n k) h.0.parts
 
-    z_keeper : z.keeper ≡ y.keeper
-    z_keeper = ap (λ n. n.keeper) z_at
-
-    log_in : (b : Bool) → records y.keeper ≡ failed_records b (records x.keeper) (record_bytes r) → log_of service past (records y.keeper) ≡ (if b then said ∷ log else log)
-    log_in true e = ap (log_of service past) e ∙ log_then service past (records x.keeper) r spelling due
-    log_in false e = ap (log_of service past) e
-
-    base_in : (b : Bool) → (if b then k else x.base) ≡ base (if b then said ∷ log else log)
-    base_in true = sym long
-    base_in false = u.base
-
-    down_at : so_far records service past z mid ≡ record { node = down_node (if h.0.kept then said ∷ log else log) None; sends = []; effects = before.effects.items ++ effect.Down x.id ∷ [] }
-    down_at =
-        ap (λ n. call_at (here_of records service past n) (map (message_in past) mid.sends.items) mid.effects.items) z_at
-        ∙ ap (λ l. call_at (record (here_of records service past (fell_at h.0.kept y.keeper)) { log = l }) (map (message_in past) mid.sends.items) mid.effects.items) (log_in h.0.kept h.0.records)
-        ∙ ap (λ b. call_at (record (here_of records service past (fell_at h.0.kept y.keeper)) { log = if h.0.kept then said ∷ log else log; replayed = b }) (map (message_in past) mid.sends.items) mid.effects.items) (base_in h.0.kept)
-        ∙ ap (λ ms. call_at (down_node (if h.0.kept then said ∷ log else log) None) (map (message_in past) ms) mid.effects.items) h.2
-        ∙ ap (call_at (down_node (if h.0.kept then said ∷ log else log) None) []) h.1
-
-    pub moved_down : (Fell records gives faults service call x.id x.keeper z.keeper (so_far records service past x before) (so_far records service past z mid) × IsDown z) × IsResting records service past z
+    pub moved_down : Ends records gives faults service past call x z before mid Down
     moved_down = (
       (
-        subst (λ j. Fell records gives faults service call x.id x.keeper j (so_far records service past x before) (so_far records service past z mid)) (sym z_keeper)
-            (fell_append records gives faults service call_is x.keeper y.keeper stated h.0.kept h.0.answer h.0.records h.0.faults down_at),
+        subst (λ j. Fell records gives faults service call x.id x.keeper j begun (so_far records service past z mid)) (sym (ap (λ n. n.keeper) z_at))
+            (fell_append records gives faults service call_is x.keeper y.keeper stated h.0.kept h.0.answer h.0.records h.0.faults (fell_here records service past x (record_bytes r) (log_then service past (records x.keeper) r spelling due) u.base (sym long) h.0.kept h.0.records z_at h.2 h.1)),
         record { down = ap (λ n. n.up) z_at; bare = ap (λ n. n.reached) z_at },
       ),
       subst (IsResting records service past) (sym z_at) (record { id = node.id; few = node.few; up = λ t. absurd (false≢true t); reached = tt; decoded = node.decoded; rests = λ t. absurd (false≢true t) }),
@@ -130,17 +111,13 @@ module _ {K : Type 0} {records : K → List (List ℕ)} (gives : K → List ℕ 
   module _ (h : Appends records faults gives x y before mid (record_bytes r) On) where
     -- memory is short then
     pub moved_stuck : {z : NodeValue K} → z.keeper ≡ y.keeper → z.base ≡ k → IsStuck records gives faults service past call x z before
-    moved_stuck {z} keeper based =
-        inr (breaks_here y z mid (appended_leads records gives faults service past x y before mid spelling due stated call_is h)
-        (omega (arith, ap length h.0.records, length_push (records x.keeper) (record_bytes r)))
-        (based ∙ sym long ∙ ap base (sym (ap (λ j. log_of service past (records j)) keeper ∙ appended_log records gives faults service past x y before mid spelling due stated h)))
-        (λ d. refl) (ap records keeper) (ap faults keeper) (inl keeper))
+    moved_stuck keeper based = inr (appended_breaks records gives faults service past x y before mid spelling due stated call_is h (λ d. refl) keeper (based ∙ sym long))
 
     -- the node is a follower at the state
     abbrev follower : K → NodeValue K
-    follower j = record x { keeper = j; acceptor = forgetting x.acceptor k; offset = k; known = first k past; base = k; start = s; replayed = k; ahead = None; reached = None; proposer = None; acting = None }
+    follower j = record x { keeper = j; acceptor = forgetting x.acceptor k; offset = k; known = values; base = k; start = s; replayed = k; ahead = None; reached = None; proposer = None; acting = None }
 
-    module _ {z : NodeValue K} (z_is : z ≡ leaving (record y { offset = k; known = first k past ++ []; acceptor = forgetting y.acceptor k; base = k; start = s; replayed = k; ahead = None; reached = None })) {after : Draft}
+    module _ {z : NodeValue K} (z_is : z ≡ leaving (record y { offset = k; known = values ++ []; acceptor = forgetting y.acceptor k; base = k; start = s; replayed = k; ahead = None; reached = None })) {after : Draft}
         (told : Tells mid after (effect.Transferred y.id k ∷ followed y.id (role_of y.acceptor y.proposer (is_some y.acting)))) where
       left_same : (t : Bool) → replayed_left t k k ≡ k
       left_same true = refl
@@ -153,8 +130,8 @@ module _ {K : Type 0} {records : K → List (List ℕ)} (gives : K → List ℕ 
       followed_at : z ≡ follower y.keeper
       followed_at =
           z_is
-          ∙ ap (λ n. leaving (record n { offset = k; known = first k past ++ []; acceptor = forgetting n.acceptor k; base = k; start = s; replayed = k; ahead = None; reached = None })) h.0.parts
-          ∙ ap (λ vs. record (follower y.keeper) { known = vs; replayed = replayed_left (is_some x.acting) k k; ahead = ahead_left (is_some x.acting) None }) (append-nil (first k past))
+          ∙ ap (λ n. leaving (record n { offset = k; known = values ++ []; acceptor = forgetting n.acceptor k; base = k; start = s; replayed = k; ahead = None; reached = None })) h.0.parts
+          ∙ ap (λ vs. record (follower y.keeper) { known = vs; replayed = replayed_left (is_some x.acting) k k; ahead = ahead_left (is_some x.acting) None }) (append-nil values)
           ∙ ap (λ m. record (follower y.keeper) { replayed = m; ahead = ahead_left (is_some x.acting) None }) (left_same _)
           ∙ ap (λ o. record (follower y.keeper) { ahead = o }) (none_left _)
 
@@ -168,19 +145,19 @@ module _ {K : Type 0} {records : K → List (List ℕ)} (gives : K → List ℕ 
           ∙ ap (λ w. at (said ∷ log) w k (effect.Transferred x.id k)) (sym (no_work_left x.acting))
           ∙ ap (λ t. at (said ∷ log) (work_left t (work_of x.acting)) k (effect.Transferred x.id k)) (sym (role_active service x.known x.acceptor _ x.acting u.acting))
           ∙ ap (λ m. at (said ∷ log) (work_left active (work_of x.acting)) m (effect.Transferred x.id m)) (sym long)
-          ∙ ap (λ m. at (said ∷ log) (work_left active (work_of x.acting)) m (effect.Transferred x.id (length (first k past)))) (sym (left_long active))
+          ∙ ap (λ m. at (said ∷ log) (work_left active (work_of x.acting)) m (effect.Transferred x.id (length values))) (sym (left_long active))
         where
           active : Bool
           active = is_active (here_of records service past x).role
 
-          left_long : (t : Bool) → replayed_left t (length (first k past)) (length (first k past)) ≡ length (first k past)
+          left_long : (t : Bool) → replayed_left t (length values) (length values) ≡ length values
           left_long true = refl
           left_long false = refl
 
           at : List (Rec Value StateValue) → Work → ℕ → Effect → CallHere
           at l w m e = call_at (record (here_of records service past (follower y.keeper)) { log = l; work = w; replayed = m }) ms (es ++ (e ∷ followed x.id (role_of x.acceptor x.proposer (is_some x.acting))))
 
-      comes : so_far records service past z after ≡ rest (logged (rec_of service past r) None (so_far records service past x before))
+      comes : so_far records service past z after ≡ rest (logged (rec_of service past r) None begun)
       comes =
           far records service past z after
           (told.effects_are ∙ ap (λ es. es ++ (effect.Transferred y.id k ∷ followed y.id (role_of y.acceptor y.proposer (is_some y.acting)))) h.1
@@ -203,7 +180,7 @@ module _ {K : Type 0} {records : K → List (List ℕ)} (gives : K → List ℕ 
             base = sym long;
             old_base = l.old_base;
             few = omega (arith, long);
-            start = ap (λ vs. run service (start_of service) (trace_of vs)) (take_all k (first k past) (omega (arith, long))) ∙ leads;
+            start = ap (λ vs. run service (start_of service) (trace_of vs)) (take_all k values (omega (arith, long))) ∙ leads;
             short = All-filter _ (λ q. IsValue q.value) x.acceptor.accepted l.short;
             fits = fits;
             numbers = record { ballots = l.numbers.ballots; instances = l.numbers.instances; few = omega (arith, long, there.last) };
@@ -231,55 +208,43 @@ module _ {K : Type 0} {records : K → List (List ℕ)} (gives : K → List ℕ 
 
       pub moved_on : EndsWell records gives faults service past x z before after call
       moved_on =
-          let resting : IsResting records service past z = subst (IsResting records service past) (sym followed_at) follower_node in (
-            (
-              leads_then records gives faults service
-                  (appended_leads records gives faults service past x y before mid spelling due stated call_is h) last,
-              within resting,
-              ap (λ n. n.up) followed_at ∙ up,
-            ),
-            resting,
-          )
-        where
-          keeper : z.keeper ≡ y.keeper
-          keeper = ap (λ n. n.keeper) followed_at
-
-          last : Leads records gives faults service rest (λ d. d) y.keeper z.keeper (so_far records service past y mid) (so_far records service past z after)
-          last =
-              subst (λ j. Leads records gives faults service rest (λ d. d) y.keeper j (so_far records service past y mid) (so_far records service past z after)) (sym keeper)
-              (leads_same records gives faults service (ap (λ j. length (log_of service past (records j))) keeper)
-              (λ f. ap (λ d. rest (armed_with f d)) (appended_here records gives faults service past x y before mid spelling due stated h) ∙ ap (armed_with f) (sym comes)))
+          recorded_on gives faults y before mid node up spelling due stated call_is h after (ap (λ n. n.keeper) followed_at)
+          (subst (IsResting records service past) (sym followed_at) follower_node) (ap (λ n. n.up) followed_at ∙ up) (λ f. refl) comes
 
 -- ---- a state that is told
 
 module _ {K : Type 0} {records : K → List (List ℕ)} (gives : K → List ℕ → Answer → K → Type 0) (faults : K → ℕ) {service : Declarations} {past : List Value} {x : NodeValue K} (node : IsResting records service past x) (up : x.up ≡ true) (before : Draft) (k : ℕ) where
-  -- the values before one that is taken over fit
-  pub told_fits : length x.known < k → RunsOn service (on_snapshot (service_of service x.seed) x.id (first k past)) (so_far records service past x before) → values_fit service (first k past) ≡ true
-  told_fits more runs = subst (λ d. values_fit service (known d.node.log) ≡ true) taken runs
-    where
-      rests : CallHere → CallHere
-      rests e = follow x.id (effect.Transferred x.id (length (first k past)) ∷ []) (with_replayed (length (first k past)) e)
+  abbrev told_so_far : CallHere
+  told_so_far = so_far records service past x before
 
-      taken : on_snapshot (service_of service x.seed) x.id (first k past) (so_far records service past x before) ≡ append None x.id (Transferred (first k past) ((service_of service x.seed).state (first k past))) (so_far records service past x before) rests
-      taken =
-          ap (λ t. cond t (say (effect.IgnoredInstance (length (first k past)) (suc (length (known (here_of records service past x).log)))) (so_far records service past x before)) (append None x.id (Transferred (first k past) ((service_of service x.seed).state (first k past))) (so_far records service past x before) rests))
-          (lt-leb (length (first k past)) (length (known (here_of records service past x).log)) (omega (arith, first_length k past, more, ap (λ vs. length vs) (node.up up).known)))
+  abbrev known_log : List (Rec Value StateValue)
+  known_log = log_of service past (records x.keeper)
+
+  -- it is ignored, or the state is written down
+  abbrev ignores : ℕ → ℕ → CallHere → CallHere
+  ignores n next d = say (effect.IgnoredInstance n next) d
+
+  abbrev takes : Option Failure → CallHere → CallHere
+  takes f d = append f x.id (Transferred (first k past) ((service_of service x.seed).state (first k past))) d (λ e. follow x.id (effect.Transferred x.id (length (first k past)) ∷ []) (with_replayed (length (first k past)) e))
+
+  decides : {t : Bool} → nat_le (length (first k past)) (length (known known_log)) ≡ t → (f : Option Failure) → on_snapshot (service_of service x.seed) x.id (first k past) (armed_with f told_so_far) ≡ cond t (ignores (length (first k past)) (suc (length (known known_log))) (armed_with f told_so_far)) (takes f (armed_with f told_so_far))
+  decides e f = ap (λ t. cond t (ignores (length (first k past)) (suc (length (known known_log))) (armed_with f told_so_far)) (takes f (armed_with f told_so_far))) e
+
+  -- the values before one that is taken over fit
+  pub told_fits : length x.known < k → RunsOn service (on_snapshot (service_of service x.seed) x.id (first k past)) told_so_far → values_fit service (first k past) ≡ true
+  told_fits more runs =
+      subst (λ d. values_fit service (known d.node.log) ≡ true)
+      (decides (lt-leb (length (first k past)) (length (known known_log)) (omega (arith, first_length k past, more, ap (λ vs. length vs) (node.up up).known))) None) runs
 
   -- one after no more values than are known is ignored
   pub snapshot_ignored : (after : Draft) {next : ℕ} → k ≤ length x.known → next ≡ length x.known + 1 → after.effects.items ≡ before.effects.items ++ effect.IgnoredInstance k next ∷ [] → after.sends.items ≡ before.sends.items
       → EndsWell records gives faults service past x x before after (on_snapshot (service_of service x.seed) x.id (first k past))
   snapshot_ignored after {next} few next_is effects sends =
-      ends_same records gives faults service past x x before after refl node up
-      (λ f. ap (λ t. cond t (says f (length (first k past)) (suc (length (known (here_of records service past x).log)))) (takes f)) (le-leb (length (first k past)) (length (known (here_of records service past x).log)) (omega (arith, first_length k past, few, ap (λ vs. length vs) (node.up up).known)))
-      ∙ ap (λ n. says f n (suc (length (known (here_of records service past x).log)))) (first_length k past)
-      ∙ ap (λ n. says f k n) (sym here)
+      ends_same x before after refl node up
+      (λ f. decides (le-leb (length (first k past)) (length (known known_log)) (omega (arith, first_length k past, few, ap (λ vs. length vs) (node.up up).known))) f
+      ∙ ap (λ n. ignores n (suc (length (known known_log))) (armed_with f told_so_far)) (first_length k past)
+      ∙ ap (λ n. ignores k n (armed_with f told_so_far)) (sym here)
       ∙ ap (armed_with f) (sym (far records service past x after effects (ap (map (message_in past)) sends))))
     where
-      says : Option Failure → ℕ → ℕ → CallHere
-      says f n m = say (effect.IgnoredInstance n m) (armed_with f (so_far records service past x before))
-
-      takes : Option Failure → CallHere
-      takes f = append f x.id (Transferred (first k past) ((service_of service x.seed).state (first k past))) (armed_with f (so_far records service past x before)) (λ e. follow x.id (effect.Transferred x.id (length (first k past)) ∷ []) (with_replayed (length (first k past)) e))
-
-      here : next ≡ suc (length (known (here_of records service past x).log))
+      here : next ≡ suc (length (known known_log))
       here = let n : next ≡ suc (length x.known) = omega (arith, next_is) in n ∙ ap (λ vs. suc (length vs)) (node.up up).known

@@ -1,34 +1,15 @@
 -- A node that leads proposes a value: it accepts the value itself and counts that.
-use Rattle.rex_node.proofs.Common.{◌≡◌, ℕ, suc, ◌+◌, ◌<◌, ◌≤◌, Bool, true, false, cond, List, [], ◌∷◌, ◌++◌, length, Option, Some, None, inr, refl, sym, ap, subst, ◌∙◌, arith, map, max, is_some, option_map, IfSome, IsSome, unwrap_or, most_nodes, Kept, IsValue, proposal_for, AcceptorValue, accepting, ProposerValue, proposed, counted_none, counted_push, Declarations, StateValue, start_of, run, Answer, KeptRec, HasSpelling, record_bytes, Effect, Rec, Proposal, proposal_of, offset, Accepted, Failure, Leading, Accept, LeadFits, RoleFits, logged, leading, led, others, propose, say, send, Value, trace_of, values_fit, CallHere, same_Some, Going, On, Down, Draft, content_in, message_in, log_of, proposal_in, NodeValue, ActingValue, ActsFor, IsActing, IsProposer, Proposes, IsCutAt, IsUp, IsKept, HasOpen, OpenIsCut, AreShort, Keeps, Falls, here_of, lead_of, open_of, role_of, HasDecoded, HasReached, armed_with, Appends, BreaksOff, Comes, LosesFirst, so_far, FromLead, IsOwnCut, Opens, OpensShort, accept_own, opened}
-use Rattle.std.specs.Prelude.{take}
+use Rattle.rex_node.proofs.Common.{◌≡◌, ℕ, suc, ◌+◌, ◌<◌, ◌≤◌, Bool, true, false, cond, List, [], ◌∷◌, ◌++◌, length, Option, Some, None, inr, refl, sym, ap, subst, ◌∙◌, arith, map, max, is_some, option_map, IfSome, IsSome, unwrap_or, Kept, IsValue, proposal_for, AcceptorValue, accepting, ProposerValue, proposed, counted_none, counted_push, Declarations, Answer, HasSpelling, record_bytes, Effect, Proposal, proposal_of, Failure, Leading, Accept, LeadFits, leading, led, others, say, send, Value, CallHere, same_Some, Going, On, Down, Draft, content_in, message_in, log_of, proposal_in, NodeValue, ActingValue, ActsFor, IsActing, IsProposer, Proposes, IsCutAt, IsUp, IsKept, HasOpen, OpenIsCut, here_of, lead_of, open_of, armed_with, Appends, so_far, FromLead, IsOwnCut, Opens, OpensShort, accept_own, opened, Lead, Role, Message}
 use Rattle.rex_ballot.specs.Ballot as ballots
 use Rattle.rex_ballot.proofs.Lists.{proposals_are_replaced}
 use Rattle.rex_paxos.specs.Counting as counting
 use Rattle.rex_paxos.specs.Proposer.{CountsOnce}
 use Rattle.rex_durable.specs.declared.records.Rec.TheVariants as kept
-use Rattle.rex_report.specs.declared.effect.Effect.TheVariants as effect
 use Rattle.rex_msg.specs.declared.message.Content.TheVariants as sent
 use Rattle.rex_cluster.specs.Ranges.{IsInstance}
-use Rattle.rex_node.proofs.Appended.{fits_ballot, instance_fits, logged_accepted, logged_of, beside_of, up_of, IsLogged, Beside}
+use Rattle.rex_node.proofs.Appended.{appended_breaks, appended_fell, appended_leads, appended_log, call_at, fits_ballot, instance_fits, logged_accepted, logged_of, beside_of, up_of, logged_as, IsLogged, Beside, lead_fits_of}
 use Rattle.rex_node.proofs.GoingLemmas.{leads_same, leads_then}
-use Rattle.rex_node.proofs.Written.{appends_as, call_is, broken_written, log_written, written_on, written_down}
-
--- the parts that a node has of its records don't know its role
-pub logged_as : {K : Type 0} {service : Declarations} {x y : NodeValue K} {log : List (Rec Value StateValue)} → y.acceptor ≡ x.acceptor → y.offset ≡ x.offset → y.known ≡ x.known → y.base ≡ x.base → y.old_base ≡ x.old_base → y.start ≡ x.start → IsLogged service x log → IsLogged service y log
-logged_as {service} {x} {y} a f k b o s h = record {
-  promised = ap (λ v. v.promised) a ∙ h.promised;
-  accepted = ap (λ v. map proposal_in v.accepted) a ∙ h.accepted;
-  offset_is = f ∙ h.offset_is;
-  low = subst (λ n. n ≤ y.base) (sym f) (subst (λ n. x.offset ≤ n) (sym b) h.low);
-  known = k ∙ h.known;
-  base = b ∙ h.base;
-  old_base = o ∙ h.old_base;
-  few = subst (λ n. n ≤ length y.known) (sym b) (subst (λ vs. x.base ≤ length vs) (sym k) h.few);
-  start = ap (λ n. run service (start_of service) (trace_of (take n y.known))) b ∙ ap (λ vs. run service (start_of service) (trace_of (take x.base vs))) k ∙ h.start ∙ ap (λ t. Some t) (sym s);
-  short = subst (λ v. AreShort v.accepted) (sym a) h.short;
-  fits = ap (values_fit service) k ∙ h.fits;
-  numbers = h.numbers;
-}
+use Rattle.rex_node.proofs.Promises.{appends_at}
 
 -- ---- a proposal that is opened
 
@@ -111,6 +92,13 @@ lead_opened a p {active} {i} {v} e many =
     ∙ ap (λ o. leading (lead_of a p active) (option_map proposal_in o) (ballots.node_of p.ballot ∷ []) active) (own_open a p)
     ∙ ap (λ n. leading (lead_of a p active) (Some (proposal_of p.ballot i v)) (n ∷ []) active) e
 
+-- what is said of an optional value is said of the one that is there
+pub if_some : {A : Type 0} (P : A → Type 0) {o : Option A} {x : A} → o ≡ Some x → IfSome o P → P x
+if_some P e h = subst (λ o. IfSome o P) e h
+
+pub some_if : {A : Type 0} (P : A → Type 0) {o : Option A} {x : A} → o ≡ Some x → P x → IfSome o P
+some_if P e h = subst (λ o. IfSome o P) (sym e) h
+
 -- an optional value that is there
 pub some_of : {A : Type 0} (o : Option A) → IsSome o → (x : A) × (o ≡ Some x)
 some_of None h = absurd (cc)
@@ -118,144 +106,116 @@ some_of (Some x) h = (x, refl)
 
 -- ---- a node that proposes
 
-module _ {K : Type 0} (records : K → List (List ℕ)) (gives : K → List ℕ → Answer → K → Type 0) (faults : K → ℕ) {service : Declarations} (past : List Value) {x : NodeValue K} (u : IsUp service x (here_of records service past x)) (id : (0 < x.id) × (x.id ≤ x.nodes)) (few : x.nodes ≤ most_nodes) (reached : HasReached service x.offset x.known x.reached) (decoded : HasDecoded service x.decoded)
-    {p : ProposerValue} (e : x.proposer ≡ Some p) {i : ℕ} {v : Value} (next : i ≡ length x.known + 1) (there : ballots.IsInstance i) (short : IsValue v) (cut : IsOwnCut service x v) where
-  abbrev r : Rec Value StateValue
-  r = Accepted p.ballot i v
-
-  abbrev log : List (Rec Value StateValue)
-  log = log_of service past (records x.keeper)
-
-  proposes : Proposes x.nodes x.id x.acceptor p
-  proposes = subst (IsProposer x.nodes x.id x.acceptor) e u.proposer
-
-  lead_fits : LeadFits (length x.known) (lead_of x.acceptor p (is_some x.acting))
-  lead_fits = subst (λ o. RoleFits (length x.known) (role_of x.acceptor o (is_some x.acting))) e (beside_of records service past x u).role
-
-  pub spelled : HasSpelling (kept.Accepted p.ballot i v)
-  spelled = record { in_range = (fits_ballot lead_fits.ballot, there, short) }
-
-  abbrev z_at : K → NodeValue K
-  z_at keeper = record x { keeper = keeper; acceptor = accepting x.acceptor (own p i v); proposer = Some (proposed p i) }
-
-  module _ (keeper : K) (grown : records keeper ≡ records x.keeper ++ record_bytes (kept.Accepted p.ballot i v) ∷ []) where
-    abbrev z : NodeValue K
-    z = record x { keeper = keeper; acceptor = accepting x.acceptor (own p i v); proposer = Some (proposed p i) }
-
-    log_is : log_of service past (records keeper) ≡ r ∷ log
-    log_is = log_written records gives faults past u spelled tt refl grown
-
-    late : offset log < i
-    late =
-        let l = logged_of records service past x u in
-        omega (arith, l.low, l.few, next, l.offset_is)
-
-    z_logged : IsLogged service z (log_of service past (records keeper))
-    z_logged = subst (IsLogged service z) (sym log_is)
-        (logged_as refl refl refl refl refl refl
-        (logged_accepted (logged_of records service past x u) lead_fits.ballot (instance_fits there) short late))
-
-    z_beside : Beside records service past z
-    z_beside = let b = beside_of records service past x u in record {
-      based = b.based;
-      replayed = b.replayed;
-      ahead = b.ahead;
-      caught_up = b.caught_up;
-      proposer = proposes_opened id.0 id.1 proposes i v;
-      acting = acting_opened service x.known x.acceptor p x.acting i v (subst (λ o. IsActing service x.known x.acceptor o x.acting) e u.acting) cut;
-      stamped = b.stamped;
-      role = role_opened x.acceptor p v (omega (arith, next)) (instance_fits there) lead_fits;
-    }
-
-    z_kept : IsKept records service past z
-    z_kept = record { id = id; few = few; up = λ t. up_of records service past z z_logged z_beside; reached = reached; decoded = decoded }
-
-    -- the model's call comes to the same
-    z_comes : (told : Effect) (before after : Draft) (k : CallHere → CallHere) {f : Option Failure} → after.effects.items ≡ before.effects.items ++ told ∷ [] → map (message_in past) after.sends.items ≡ map (message_in past) before.sends.items ++ others x.nodes x.id (Accept p.ballot i v)
-        → k (send (say told (led (leading (lead_of x.acceptor p (is_some x.acting)) (Some (proposal_of p.ballot i v)) (x.id ∷ []) (is_some x.acting)) (armed_with f (logged r None (so_far records service past x before))))) (others x.nodes x.id (Accept p.ballot i v)))
-        ≡ k (led (leading (lead_of x.acceptor p (is_some x.acting)) (Some (proposal_of p.ballot i v)) (x.id ∷ []) (is_some x.acting)) (armed_with f (so_far records service past z after)))
-    z_comes told before after k {f} effects sends =
-        ap k (call_is
-        (sym log_is) refl refl (sym sends) (sym effects))
-
-  -- the call goes on with its proposal open
-  pub opens_on : (up : x.up ≡ true) (told : Effect) {y z : NodeValue K} (before mid after : Draft) → Keeps records faults gives x y (record_bytes (kept.Accepted p.ballot i v)) → mid.effects.items ≡ before.effects.items → mid.sends.items ≡ before.sends.items
-      → z ≡ opened y i v → after.effects.items ≡ mid.effects.items ++ told ∷ [] → FromLead y (λ l. map (message_in past) after.sends.items ≡ map (message_in past) mid.sends.items ++ others y.nodes y.id (content_in past (sent.Accept l.ballot i v)))
-      → Opens records gives faults service past told i v x z before after On
-  opens_on up told {y} {z} before mid after h effects sends z_is more_effects more_sends =
-      subst (λ o. IfSome o (λ q. (k : CallHere → CallHere) → Comes records gives faults service past (λ d. propose x.nodes x.id told d (lead_of x.acceptor q (is_some x.acting)) i v k) (λ d. k (led (leading (lead_of x.acceptor q (is_some x.acting)) (Some (proposal_of q.ballot i v)) (x.id ∷ []) (is_some x.acting)) d)) x z before after On))
-      (sym e)
-      (λ k. subst (λ n. Comes records gives faults service past (λ d. propose x.nodes x.id told d (lead_of x.acceptor p (is_some x.acting)) i v k) (λ d. k (led (leading (lead_of x.acceptor p (is_some x.acting)) (Some (proposal_of p.ballot i v)) (x.id ∷ []) (is_some x.acting)) d)) x n before after On) (sym all) (
-        leads_then records gives faults service
-            (written_on records gives faults past u spelled tt refl y before (λ d. k (send (say told (led (leading (lead_of x.acceptor p (is_some x.acting)) (Some (proposal_of p.ballot i v)) (x.id ∷ []) (is_some x.acting)) d)) (others x.nodes x.id (Accept p.ballot i v)))) (λ f. refl) h)
-            (leads_same records gives faults service
-            (ap length (log_is y.keeper h.records))
-            (λ f. z_comes y.keeper h.records told before after k (more_effects ∙ ap (λ es. es ++ told ∷ []) effects) sends_are)),
-        z_kept y.keeper h.records,
-        up,
-      ))
-    where
-      y_is : y ≡ record x { keeper = y.keeper }
-      y_is = h.parts
-
-      all : z ≡ z_at y.keeper
-      all = z_is ∙ ap (λ n. opened n i v) y_is ∙ ap (λ o. record x { keeper = y.keeper; acceptor = accept_own o x.acceptor i v; proposer = option_map (λ q. proposed q i) o }) e
-
-      sends_are : map (message_in past) after.sends.items ≡ map (message_in past) before.sends.items ++ others x.nodes x.id (Accept p.ballot i v)
-      sends_are = subst (λ o. IfSome o (λ q. map (message_in past) after.sends.items ≡ map (message_in past) before.sends.items ++ others x.nodes x.id (Accept q.ballot i v))) e
-          (subst (λ ms. IfSome x.proposer (λ q. map (message_in past) after.sends.items ≡ map (message_in past) ms ++ others x.nodes x.id (Accept q.ballot i v))) sends
-          (subst (λ n. FromLead n (λ l. map (message_in past) after.sends.items ≡ map (message_in past) mid.sends.items ++ others n.nodes n.id (content_in past (sent.Accept l.ballot i v)))) y_is more_sends))
-
-  -- or the node is down
-  pub opens_down : (told : Effect) {y : NodeValue K} (before after : Draft) → Falls records faults gives x y (record_bytes (kept.Accepted p.ballot i v)) → after.effects.items ≡ before.effects.items ++ effect.Down x.id ∷ [] → after.sends.items ≡ []
-      → Opens records gives faults service past told i v x y before after Down
-  opens_down told {y} before after h effects sends =
-      subst (λ o. IfSome o (λ q. (k : CallHere → CallHere) → Comes records gives faults service past (λ d. propose x.nodes x.id told d (lead_of x.acceptor q (is_some x.acting)) i v k) (λ d. k (led (leading (lead_of x.acceptor q (is_some x.acting)) (Some (proposal_of q.ballot i v)) (x.id ∷ []) (is_some x.acting)) d)) x y before after Down))
-      (sym e)
-      (λ k. written_down records gives faults past u spelled tt refl y before (λ d. k (send (say told (led (leading (lead_of x.acceptor p (is_some x.acting)) (Some (proposal_of p.ballot i v)) (x.id ∷ []) (is_some x.acting)) d)) (others x.nodes x.id (Accept p.ballot i v)))) (λ f. refl)
-      after refl h effects sends (λ d. k (led (leading (lead_of x.acceptor p (is_some x.acting)) (Some (proposal_of p.ballot i v)) (x.id ∷ []) (is_some x.acting)) d)))
-
-  -- or memory was short with the acceptance written down
-  pub opens_broken : (told : Effect) {y z : NodeValue K} (before : Draft) → Keeps records faults gives x y (record_bytes (kept.Accepted p.ballot i v)) → z.keeper ≡ y.keeper → z.base ≡ y.base → OpensShort records gives faults service past told i v x z before
-  opens_broken told {y} {z} before h keeper based =
-      inr (subst (λ o. IfSome o (λ q. (k : CallHere → CallHere) → LosesFirst k → BreaksOff records gives faults service past (λ d. propose x.nodes x.id told d (lead_of x.acceptor q (is_some x.acting)) i v k) x z before))
-      (sym e)
-      (λ k loses. broken_written records gives faults past u spelled tt refl y before (λ d. k (send (say told (led (leading (lead_of x.acceptor p (is_some x.acting)) (Some (proposal_of p.ballot i v)) (x.id ∷ []) (is_some x.acting)) d)) (others x.nodes x.id (Accept p.ballot i v)))) (λ f. refl)
-      refl h keeper based (λ d. loses (send (say told (led (leading (lead_of x.acceptor p (is_some x.acting)) (Some (proposal_of p.ballot i v)) (x.id ∷ []) (is_some x.acting)) d)) (others x.nodes x.id (Accept p.ballot i v))))))
-
--- ---- the same of the call
-
 module _ {K : Type 0} {records : K → List (List ℕ)} (gives : K → List ℕ → Answer → K → Type 0) (faults : K → ℕ) {service : Declarations} {past : List Value} {x : NodeValue K} (kept_so : IsKept records service past x) (up : x.up ≡ true) (leads : IsSome x.proposer)
     {i : ℕ} {v : Value} (next : i ≡ length x.known + 1) (there : ballots.IsInstance i) (short : IsValue v) (cut : IsOwnCut service x v)
     {b : ℕ} (b_is : b ≡ unwrap_or (option_map (λ (p : ProposerValue). p.ballot) x.proposer) 0) where
-  b_own : {p : ProposerValue} → x.proposer ≡ Some p → b ≡ p.ballot
-  b_own e = b_is ∙ ap (λ o. unwrap_or (option_map (λ q. q.ballot) o) 0) e
+  u : IsUp service x (here_of records service past x)
+  u = kept_so.up up
+
+  -- what it leads with
+  abbrev p : ProposerValue
+  p = (some_of x.proposer leads).0
+
+  p_is : x.proposer ≡ Some p
+  p_is = (some_of x.proposer leads).1
+
+  abbrev lead : Lead Value
+  lead = lead_of x.acceptor p (is_some x.acting)
+
+  abbrev role_open : Role Value
+  role_open = leading lead (Some (proposal_of p.ballot i v)) (x.id ∷ []) (is_some x.acting)
+
+  lead_fits : LeadFits (length x.known) lead
+  lead_fits = lead_fits_of records past u p_is
+
+  spelled : HasSpelling (kept.Accepted p.ballot i v)
+  spelled = record { in_range = (fits_ballot lead_fits.ballot, there, short) }
+
+  b_own : b ≡ p.ballot
+  b_own = b_is ∙ ap (λ o. unwrap_or (option_map (λ q. q.ballot) o) 0) p_is
 
   pub propose_spelled : {w : Value} → w ≡ v → HasSpelling (kept.Accepted b i w)
-  propose_spelled {w} w_is =
-      let s = some_of _ leads in
-      subst (λ n. HasSpelling (kept.Accepted n i w)) (sym (b_own s.1)) (subst (λ z. HasSpelling (kept.Accepted s.0.ballot i z)) (sym w_is)
-      (spelled records gives faults past (kept_so.up up) kept_so.id kept_so.few kept_so.reached kept_so.decoded s.1 next there short cut))
+  propose_spelled {w} w_is = subst (λ n. HasSpelling (kept.Accepted n i w)) (sym b_own) (subst (λ z. HasSpelling (kept.Accepted p.ballot i z)) (sym w_is) spelled)
 
   module _ (told : Effect) {w : Value} (w_is : w ≡ v) (y : NodeValue K) (before mid : Draft) (g : Going) (h : Appends records faults gives x y before mid (record_bytes (kept.Accepted b i w)) g) where
-    same_rec : {p : ProposerValue} → x.proposer ≡ Some p → (let r : KeptRec = kept.Accepted b i w in r) ≡ kept.Accepted p.ballot i v
-    same_rec {p} e = ap (λ n. kept.Accepted n i w) (b_own e) ∙ ap (λ z. kept.Accepted p.ballot i z) w_is
+    as_own : {now : Going} → g ≡ now → Appends records faults gives x y before mid (record_bytes (kept.Accepted p.ballot i v)) now
+    as_own e = appends_at records gives faults x y before mid (kept.Accepted b i w) (ap (λ n. kept.Accepted n i w) b_own ∙ ap (λ z. kept.Accepted p.ballot i z) w_is) e h
 
+    -- what is left of the call after the append
+    abbrev tells : (CallHere → CallHere) → CallHere → CallHere
+    tells k d = k (send (say told (led role_open d)) (others x.nodes x.id (Accept p.ballot i v)))
+
+    -- the node is down
     pub propose_down : g ≡ Down → Opens records gives faults service past told i v x y before mid Down
     propose_down e =
-        let s = some_of _ leads in
-        let k : Appends records faults gives x y before mid (record_bytes (kept.Accepted s.0.ballot i v)) Down = appends_as records gives faults x y before mid (same_rec s.1) e h in
-        opens_down records gives faults past (kept_so.up up) kept_so.id kept_so.few kept_so.reached kept_so.decoded s.1 next there short cut told before mid k.0 k.1 k.2
+        let d = as_own e in
+        some_if _ p_is
+        (λ k. (appended_fell records gives faults service past x y before mid spelled tt refl {k = tells k} (λ f. refl) u.base refl d, record { down = ap (λ n. n.up) d.0.parts; bare = ap (λ n. n.reached) d.0.parts }))
 
-    pub propose_on : g ≡ On → {z : NodeValue K} (after : Draft) → z ≡ opened y i v → after.effects.items ≡ mid.effects.items ++ told ∷ [] → FromLead y (λ l. map (message_in past) after.sends.items ≡ map (message_in past) mid.sends.items ++ others y.nodes y.id (content_in past (sent.Accept l.ballot i v)))
-        → Opens records gives faults service past told i v x z before after On
-    propose_on e {z} after z_is effects sends =
-        let s = some_of _ leads in
-        let k : Appends records faults gives x y before mid (record_bytes (kept.Accepted s.0.ballot i v)) On = appends_as records gives faults x y before mid (same_rec s.1) e h in
-        opens_on records gives faults past (kept_so.up up) kept_so.id kept_so.few kept_so.reached kept_so.decoded s.1 next there short cut up told before mid after k.0 k.1 k.2 z_is effects sends
+    module _ (e : g ≡ On) where
+      on : Appends records faults gives x y before mid (record_bytes (kept.Accepted p.ballot i v)) On
+      on = as_own e
 
-    pub propose_stuck : g ≡ On → {z : NodeValue K} → z.keeper ≡ y.keeper → z.base ≡ y.base → OpensShort records gives faults service past told i v x z before
-    propose_stuck e {z} keeper based =
-        let s = some_of _ leads in
-        let k : Appends records faults gives x y before mid (record_bytes (kept.Accepted s.0.ballot i v)) On = appends_as records gives faults x y before mid (same_rec s.1) e h in
-        opens_broken records gives faults past (kept_so.up up) kept_so.id kept_so.few kept_so.reached kept_so.decoded s.1 next there short cut told before k.0 keeper based
+      abbrev z_at : NodeValue K
+      z_at = record x { keeper = y.keeper; acceptor = accepting x.acceptor (own p i v); proposer = Some (proposed p i) }
+
+      -- what the rest of the call begins with
+      abbrev opens_to : (CallHere → CallHere) → Option Failure → List (Message Value) → List Effect → CallHere
+      opens_to k f ms es = k (led role_open (armed_with f (call_at (here_of records service past z_at) ms es)))
+
+      z_logged : IsLogged service z_at (log_of service past (records y.keeper))
+      z_logged =
+          let l = logged_of records service past x u in
+          subst (IsLogged service z_at) (sym (appended_log records gives faults service past x y before mid spelled tt refl on))
+          (logged_as refl (logged_accepted l lead_fits.ballot (instance_fits there) short (omega (arith, l.low, l.few, next, l.offset_is))))
+
+      z_beside : Beside records service past z_at
+      z_beside = let b = beside_of records service past x u in record {
+        based = b.based;
+        replayed = b.replayed;
+        ahead = b.ahead;
+        caught_up = b.caught_up;
+        proposer = proposes_opened kept_so.id.0 kept_so.id.1 (subst (IsProposer x.nodes x.id x.acceptor) p_is u.proposer) i v;
+        acting = acting_opened service x.known x.acceptor p x.acting i v (subst (λ o. IsActing service x.known x.acceptor o x.acting) p_is u.acting) cut;
+        stamped = b.stamped;
+        role = role_opened x.acceptor p v (omega (arith, next)) (instance_fits there) lead_fits;
+      }
+
+      z_kept : IsKept records service past z_at
+      z_kept = record { id = kept_so.id; few = kept_so.few; up = λ t. up_of records service past z_at z_logged z_beside; reached = kept_so.reached; decoded = kept_so.decoded }
+
+      -- the call goes on with its proposal open
+      pub propose_on : {z : NodeValue K} (after : Draft) → z ≡ opened y i v → after.effects.items ≡ mid.effects.items ++ told ∷ [] → FromLead y (λ l. map (message_in past) after.sends.items ≡ map (message_in past) mid.sends.items ++ others y.nodes y.id (content_in past (sent.Accept l.ballot i v)))
+          → Opens records gives faults service past told i v x z before after On
+      propose_on {z} after z_is effects sends =
+          subst (λ n. Opens records gives faults service past told i v x n before after On) (sym all)
+          (some_if _ p_is
+          (λ k. (
+            leads_then (appended_leads records gives faults service past x y before mid spelled tt refl {k = tells k} (λ f. refl) on)
+                (leads_same refl (comes k)),
+            z_kept,
+            up,
+          )))
+        where
+          all : z ≡ z_at
+          all =
+              z_is ∙ ap (λ n. opened n i v) on.0.parts
+              ∙ ap (λ o. record x { keeper = y.keeper; acceptor = accept_own o x.acceptor i v; proposer = option_map (λ q. proposed q i) o }) p_is
+
+          sends_are : map (message_in past) after.sends.items ≡ map (message_in past) mid.sends.items ++ others x.nodes x.id (Accept p.ballot i v)
+          sends_are =
+              if_some (λ q. map (message_in past) after.sends.items ≡ map (message_in past) mid.sends.items ++ others x.nodes x.id (Accept q.ballot i v)) p_is
+              (subst (λ n. FromLead n (λ l. map (message_in past) after.sends.items ≡ map (message_in past) mid.sends.items ++ others n.nodes n.id (content_in past (sent.Accept l.ballot i v)))) on.0.parts sends)
+
+          -- the model's call comes to the same
+          comes : (k : CallHere → CallHere) (f : Option Failure) → tells k (armed_with f (so_far records service past y mid)) ≡ k (led role_open (armed_with f (so_far records service past z_at after)))
+          comes k f =
+              ap (λ n. tells k (armed_with f (call_at (here_of records service past n) (map (message_in past) mid.sends.items) mid.effects.items))) on.0.parts
+              ∙ ap (λ ms. opens_to k f ms (mid.effects.items ++ told ∷ [])) (sym sends_are)
+              ∙ ap (opens_to k f _) (sym effects)
+
+      -- or memory was short with the acceptance written down
+      pub propose_stuck : {z : NodeValue K} → z.keeper ≡ y.keeper → z.base ≡ y.base → OpensShort records gives faults service past told i v x z before
+      propose_stuck keeper based =
+          inr (some_if _ p_is
+          (λ k loses. appended_breaks records gives faults service past x y before mid spelled tt refl {k = tells k} (λ f. refl) on (λ d. loses (send (say told (led role_open d)) (others x.nodes x.id (Accept p.ballot i v)))) keeper (based ∙ ap (λ n. n.base) on.0.parts ∙ u.base)))

@@ -1,14 +1,15 @@
 -- A node proposes the piece that it has made.
-use Rattle.rex_node.proofs.Common.{◌≡◌, ℕ, suc, ◌+◌, ◌<◌, true, false, cond, List, [], ◌∷◌, ◌++◌, length, Option, Some, None, Result, Ok, Err, inl, inr, refl, sym, ap, subst, ◌∙◌, arith, IfSome, IfOk, OnErr, is_some, nat_le, option_map, false≢true, lt-leb, Declarations, IsService, Event, below, greatest_cut, ProposerValue, Answer, known, Lead, Failure, enough, propose, say, settle, Value, service_of, values_fit, CallHere, active_only, cut_lead, cut_live, cut_role, is_faithful, value_at, Going, On, Down, Piece, Draft, StopsShort, armed_with, counts_for, BreaksOff, Ends, Fell, IsStuck, LeadsOn, so_far, FromLead, IsOwnCut, IsIdle, IsPieceOf, ProposesCut, ProposesCutShort, ProposesPiece, ProposesPieceShort, counts_in, cut_in, ActingValue, NodeValue, Executes, IsCutAt, IsResting, IsUp, RunsShort, Stands, here_of, lead_of, open_of, role_of, work_of, log_of}
+use Rattle.rex_node.proofs.Common.{◌≡◌, ℕ, suc, ◌+◌, ◌<◌, true, false, cond, List, [], ◌∷◌, ◌++◌, length, Option, Some, None, Result, Ok, Err, inl, inr, refl, sym, ap, subst, ◌∙◌, arith, IfSome, IfOk, OnErr, is_some, nat_le, option_map, false≢true, lt-leb, Declarations, IsService, Event, below, greatest_cut, ProposerValue, Answer, known, Lead, Failure, enough, propose, say, settle, Value, service_of, values_fit, CallHere, active_only, cut_lead, cut_live, cut_role, is_faithful, value_at, Going, Piece, Draft, armed_with, counts_for, BreaksOff, Ends, IsStuck, LeadsOn, so_far, FromLead, IsOwnCut, IsIdle, IsPieceOf, ProposesCut, ProposesCutShort, ProposesPiece, ProposesPieceShort, counts_in, cut_in, ActingValue, NodeValue, Executes, IsCutAt, IsResting, IsUp, Stands, here_of, lead_of, open_of, role_of, work_of}
 use Rattle.std.specs.Prelude.{is_err}
 use Rattle.rex_report.specs.declared.effect.Effect.TheVariants as effect
 use Rattle.rex_cluster.specs.Lanes as lanes
 use Rattle.rex_cluster.specs.Lanes.{propose_cut}
 use Rattle.rex_node.specs.Cutting.{HasPiece, IsOwnPiece, cut_at, cut_before, with_cut}
+use Rattle.rex_node.proofs.Continuing.{ends_then}
 use Rattle.rex_node.proofs.Dues.{counts_are}
 use Rattle.rex_node.proofs.Executing.{executes}
-use Rattle.rex_node.proofs.GoingLemmas.{leads_fell, leads_same, leads_then}
-use Rattle.rex_node.proofs.Stuck.{breaks_as, breaks_kept}
+use Rattle.rex_node.proofs.GoingLemmas.{leads_same}
+use Rattle.rex_node.proofs.Stuck.{breaks_as, breaks_kept, breaks_later, stands_back}
 use Rattle.rex_node.proofs.Openings.{from_lead, lead_from}
 use Rattle.rex_node.proofs.ProposedCuts.{idle_leads}
 use Rattle.rex_node.proofs.Proposing.{piece_cut, piece_faithful, piece_fits}
@@ -20,28 +21,6 @@ add_one = omega arith
 own_piece : (w : Option ActingValue) (limits : Option (List ℕ)) {p : Piece} → IsOwnPiece w limits p → (a : ActingValue) × (w ≡ Some a) × IsPieceOf a (cut_in a limits) p
 own_piece None limits h = absurd h
 own_piece (Some a) limits h = (a, refl, h)
-
-module _ {K : Type 0} (records : K → List (List ℕ)) (gives : K → List ℕ → Answer → K → Type 0) (faults : K → ℕ) (service : Declarations) (past : List Value) where
-  -- a call that does the same ends as the other
-  ends_as : (whole other : CallHere → CallHere) (x : NodeValue K) {y : NodeValue K} (first draft : Draft) (going : Going) → ((f : Option Failure) → other (armed_with f (so_far records service past x first)) ≡ whole (armed_with f (so_far records service past x first)))
-      → Ends records gives faults service past whole x y first draft going → Ends records gives faults service past other x y first draft going
-  ends_as whole other x {y} first draft On same h = (
-    (
-      leads_then records gives faults service
-          (leads_same records gives faults service refl same) h.0.0,
-      h.0.1,
-      h.0.2,
-    ),
-    h.1,
-  )
-  ends_as whole other x {y} first draft Down same h = (
-    (
-      leads_fell records gives faults service
-          (leads_same records gives faults service refl same) h.0.0,
-      h.0.1,
-    ),
-    h.1,
-  )
 
 module _ {K : Type 0} {records : K → List (List ℕ)} {service : Declarations} {past : List Value} {x : NodeValue K} (node : IsResting records service past x) {p : Piece} (has : HasPiece service x p) where
   is_up : IsUp service x (here_of records service past x)
@@ -117,19 +96,14 @@ module _ {K : Type 0} {records : K → List (List ℕ)} {service : Declarations}
       EndsBy whole z going = Ends records gives faults service past whole z y before after going
 
       -- a call of the node with this cut is one of the node
-      ends_with : (l : Lead Value) (going : Going) → EndsBy (proposes p.events p.value l) at going → EndsBy (propose_cut service x.seed x.nodes x.id cut l) x going
-      ends_with l going h =
-          ends_as records gives faults service past _ _ x before after going (λ f. same_call before l f) (begins_here l going h)
-        where
-          begins_here : (m : Lead Value) (going : Going) → EndsBy (proposes p.events p.value m) at going → EndsBy (proposes p.events p.value m) x going
-          begins_here m On k = ((subst (λ d. LeadsOn records gives faults service (proposes p.events p.value m) (λ e. e) x.keeper y.keeper d (so_far records service past y after)) (draft_with before) k.0.0, k.0.1, k.0.2), k.1)
-          begins_here m Down k = ((subst (λ d. Fell records gives faults service (proposes p.events p.value m) x.id x.keeper y.keeper d (so_far records service past y after)) (draft_with before) k.0.0, k.0.1), k.1)
+      to_proposes : (l : Lead Value) → LeadsOn records gives faults service (propose_cut service x.seed x.nodes x.id cut l) (proposes p.events p.value l) x.keeper at.keeper (so_far records service past x before) (so_far records service past at before)
+      to_proposes l = leads_same refl (λ f. same_call before l f ∙ ap (λ d. proposes p.events p.value l (armed_with f d)) (sym (draft_with before)))
 
       pub piece_ends : {mid : NodeValue K} → mid ≡ with_cut x p.cut.counts → {value : Value} → value ≡ p.value → (going : Going)
           → ProposesCut records gives faults service past p.events value mid y before after going → ProposesPiece records gives faults service past p.cut.counts x y before after going
       piece_ends {mid} mid_is value_is going h =
           from_lead x (λ l. EndsBy (propose_cut service x.seed x.nodes x.id cut l) x going)
-          (λ q leads. ends_with (lead_of x.acceptor q (is_some x.acting)) going
+          (λ q leads. ends_then x at before before after going refl (to_proposes (lead_of x.acceptor q (is_some x.acting)))
           (subst (λ t. EndsBy (proposes p.events p.value (lead_of x.acceptor q t)) at going) (active_same x.acting)
           (lead_from at (λ l. EndsBy (proposes p.events p.value l) at going) q leads h_at)))
         where
@@ -145,33 +119,17 @@ module _ {K : Type 0} {records : K → List (List ℕ)} {service : Declarations}
       cut_back (Some a) = refl
 
       short_back : {mid z : NodeValue K} → mid ≡ with_cut x cut → {counts : List ℕ} → counts ≡ cut_before x.acting cut → z ≡ with_cut y counts → Stands records faults gives mid y → Stands records faults gives x z
-      short_back {mid} {z} mid_is {counts} counts_are z_is s = record {
-        parts =
-            z_is
-            ∙ ap (λ n. with_cut n counts) s.parts
-            ∙ ap (λ n. with_cut (record n { keeper = y.keeper }) counts) mid_is
-            ∙ ap (λ c. with_cut (record (with_cut x cut) { keeper = y.keeper }) c) counts_are
-            ∙ ap (λ w. record x { keeper = y.keeper; acting = w }) (cut_back x.acting)
-            ∙ ap (λ k. record x { keeper = k }) (sym keeper);
-        records = ap records keeper ∙ s.records ∙ ap records begun;
-        faults = ap faults keeper ∙ s.faults ∙ ap faults begun;
-        short = subst (λ k. RunsShort gives x.keeper k) (sym keeper) (subst (λ k. RunsShort gives k y.keeper) begun s.short);
-      }
-        where
-          keeper : z.keeper ≡ y.keeper
-          keeper = ap (λ n. n.keeper) z_is
-
-          begun : mid.keeper ≡ x.keeper
-          begun = ap (λ n. n.keeper) mid_is
+      short_back {mid} {z} mid_is {counts} counts_are z_is s =
+          stands_back (ap (λ n. n.keeper) mid_is)
+          (z_is
+          ∙ ap (λ n. with_cut n counts) s.parts
+          ∙ ap (λ n. with_cut (record n { keeper = y.keeper }) counts) mid_is
+          ∙ ap (λ c. with_cut (record (with_cut x cut) { keeper = y.keeper }) c) counts_are
+          ∙ ap (λ w. record x { keeper = y.keeper; acting = w }) (cut_back x.acting))
+          s
 
       abbrev BreaksBy : (CallHere → CallHere) → NodeValue K → Type 0
       BreaksBy whole z = BreaksOff records gives faults service past whole z y before
-
-      -- a call of the node with this cut is one of the node
-      breaks_with : (l : Lead Value) → BreaksBy (proposes p.events p.value l) at → BreaksBy (propose_cut service x.seed x.nodes x.id cut l) x
-      breaks_with l h =
-          breaks_as {same = proposes p.events p.value l} (λ f. same_call before l f)
-          (record { stops = subst (λ d. StopsShort records gives faults service (proposes p.events p.value l) x.keeper y.keeper d (log_of service past (records y.keeper))) (draft_with before) h.stops; based = h.based })
 
       abbrev ProposesAt : ℕ → Value → NodeValue K → Type 0
       ProposesAt events v n =
@@ -183,7 +141,7 @@ module _ {K : Type 0} {records : K → List (List ℕ)} {service : Declarations}
       piece_short {mid} {z} mid_is value_is counts_are z_is (inr b) =
           inr (from_lead x (λ l. BreaksOff records gives faults service past (propose_cut service x.seed x.nodes x.id cut l) x z before)
           (λ q leads. breaks_kept (ap (λ n. n.keeper) z_is) (ap (λ n. n.base) z_is)
-          (breaks_with (lead_of x.acceptor q (is_some x.acting))
+          (breaks_later at y before (to_proposes (lead_of x.acceptor q (is_some x.acting)))
           (subst (λ t. BreaksBy (proposes p.events p.value (lead_of x.acceptor q t)) at) (active_same x.acting)
           (lead_from at (λ l. BreaksBy (proposes p.events p.value l) at) q leads b_at)))))
         where
@@ -208,10 +166,10 @@ if_then P Q (Err e) f h = tt
 
 module _ {K : Type 0} (records : K → List (List ℕ)) (service : Declarations) (past : List Value) (x : NodeValue K) (node : IsResting records service past x) (p : Piece) (has : HasPiece service x p) (good : IsService service) (q : ProposerValue) (leads : x.proposer ≡ Some q) (first : Draft) (armed : Option Failure) where
   up_now : IsUp service x (here_of records service past x)
-  up_now = node.up has.can.up
+  up_now = is_up node has
 
   abbrev has_one : (a : ActingValue) × (x.acting ≡ Some a) × IsPieceOf a (cut_in a has.limits) p
-  has_one = own_piece x.acting _ has.can.piece
+  has_one = one node has
 
   abbrev a : ActingValue
   a = has_one.0
@@ -271,8 +229,8 @@ module _ {K : Type 0} (records : K → List (List ℕ)) (gives : K → List ℕ 
       → Ends records gives faults service past (lanes.cut service x.seed x.nodes x.id (counts_for service (here_of records service past x) has.limits)) x y first draft going
   cut_ends {x} node p has good {y} first draft going h =
       let o = idle_leads x.acceptor _ has.can.idle in
-      ends_as records gives faults service past _ _ x first draft going
-      (λ f. cuts_piece records service past x node p has good o.0 o.1 first f)
+      ends_then x x first first draft going refl
+      (leads_same refl (λ f. cuts_piece records service past x node p has good o.0 o.1 first f))
       (lead_from x (λ l. Ends records gives faults service past (propose_cut service x.seed x.nodes x.id p.cut.counts l) x y first draft going) o.0 o.1 h)
 
   pub cut_short : {x : NodeValue K} (node : IsResting records service past x) (p : Piece) (has : HasPiece service x p) → IsService service → {y : NodeValue K} {first : Draft}

@@ -111,12 +111,7 @@ module _ {service : Declarations} (good : IsService service) {values : List Valu
   cut_turned (turn.Done e) {queue} {dice} k =
       let r = run-first service _ _ e [] (sym (run-then service a.recorder.start _ a.recorder.live (e ∷ []) h.recorder.runs) ∙ k.runs) in
       cut_pushed e (r.1 ∙ r.2)
-  cut_turned turn.Full k = record { consistent = c.consistent; within = c.within; events = c.events; others = c.others }
-  cut_turned turn.Idle k = record { consistent = c.consistent; within = c.within; events = c.events; others = c.others }
-  cut_turned (turn.Held by) k = record { consistent = c.consistent; within = c.within; events = c.events; others = c.others }
-  cut_turned (turn.Zero semaphore) k = record { consistent = c.consistent; within = c.within; events = c.events; others = c.others }
-  cut_turned turn.Unsignalled k = record { consistent = c.consistent; within = c.within; events = c.events; others = c.others }
-  cut_turned turn.Unfit k = record { consistent = c.consistent; within = c.within; events = c.events; others = c.others }
+  cut_turned _ k = record { consistent = c.consistent; within = c.within; events = c.events; others = c.others }
 
 -- an open proposal stays the cut that it is
 pub open_turned : {service : Declarations} → IsService service → {values : List Value} {a : ActingValue} → Executes service values a → (t : Turn) {queue : List Request} (dice : Lcg)

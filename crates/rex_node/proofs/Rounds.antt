@@ -6,31 +6,37 @@ use Rattle.rex_report.specs.declared.effect.Effect.TheVariants as effect
 use Rattle.rex_cluster.specs.Node.{dice_of}
 use Rattle.rex_cluster.specs.Calls.{activate}
 use Rattle.rex_node.specs.Leading.{IsActive, activated, fresh}
-use Rattle.rex_node.proofs.Appended.{beside_of, logged_of, up_of}
+use Rattle.rex_node.proofs.Appended.{beside_of, logged_of, up_of, logged_as, lead_fits_of}
 use Rattle.rex_node.proofs.Adopting.{goes_parts, turn_chooses}
 use Rattle.rex_log.proofs.Proposers as bridges
 use Rattle.rex_node.proofs.GoingLemmas.{leads_same}
-use Rattle.rex_node.proofs.Opening.{logged_as}
 use Rattle.rex_node.proofs.Stamping.{stamped_in}
 use Rattle.rex_node.proofs.Written.{call_is}
 use Rattle.rex_node.proofs.Reaching.{now_reached}
+use Rattle.rex_node.proofs.Following.{kept_rests}
 
 -- ---- a node that is active from here on
 
 module _ {K : Type 0} (x z : NodeValue K) (z_is : z ≡ x) (s : StateValue) (n : ℕ) (r : RecorderValue) (d : Lcg) (counts : List ℕ) (b seed : ℕ) (answers : AnswersValue) (reached : Option ReachedValue) where
   abbrev ballot : ℕ
-  ballot = unwrap_or (option_map (λ p. p.ballot) x.proposer) 0
+  ballot = unwrap_or (option_map (λ (p : ProposerValue). p.ballot) x.proposer) 0
 
-  pub activated_is : n ≡ length x.known → r ≡ started s → b ≡ unwrap_or (option_map (λ (p : ProposerValue). p.ballot) x.proposer) 0 → seed ≡ x.seed → d ≡ dice_of seed b → counts ≡ [] → answers ≡ answers_at s.clients n → reached ≡ reached_at x.offset x.base n s
-      → record z { replayed = n; ahead = None; reached = reached; acting = Some (record { recorder = r; dice = d; proposed = counts; answers = answers }) } ≡ activated x s
+  abbrev acts_with : RecorderValue → Lcg → List ℕ → AnswersValue → ActingValue
+  acts_with q e c a = record { recorder = q; dice = e; proposed = c; answers = a }
+
+  abbrev replayed_with : NodeValue K → ℕ → Option ReachedValue → ActingValue → NodeValue K
+  replayed_with y m o a = record y { replayed = m; ahead = None; reached = o; acting = Some a }
+
+  pub activated_is : n ≡ length x.known → r ≡ started s → b ≡ ballot → seed ≡ x.seed → d ≡ dice_of seed b → counts ≡ [] → answers ≡ answers_at s.clients n → reached ≡ reached_at x.offset x.base n s
+      → replayed_with z n reached (acts_with r d counts answers) ≡ activated x s
   activated_is n_is r_is b_is seed_is d_is counts_are answers_are reached_is =
-      ap (λ (y : NodeValue K). record y { replayed = n; ahead = None; reached = reached; acting = Some (record { recorder = r; dice = d; proposed = counts; answers = answers }) }) z_is
-      ∙ ap (λ (o : Option ReachedValue). record x { replayed = n; ahead = None; reached = o; acting = Some (record { recorder = r; dice = d; proposed = counts; answers = answers }) }) reached_is
-      ∙ ap (λ (m : ℕ). record x { replayed = m; ahead = None; reached = reached_at x.offset x.base m s; acting = Some (record { recorder = r; dice = d; proposed = counts; answers = answers }) }) n_is
-      ∙ ap (λ (a : ActingValue). record x { replayed = length x.known; ahead = None; reached = reached_at x.offset x.base (length x.known) s; acting = Some a })
-      (ap (λ (q : RecorderValue). record { recorder = q; dice = d; proposed = counts; answers = answers }) r_is
-      ∙ ap (λ (q : Lcg). record { recorder = started s; dice = q; proposed = counts; answers = answers }) (d_is ∙ ap (λ (k : ℕ). dice_of k b) seed_is ∙ ap (dice_of x.seed) b_is)
-      ∙ ap (λ (q : List ℕ). record { recorder = started s; dice = dice_of x.seed ballot; proposed = q; answers = answers }) counts_are
+      ap (λ y. replayed_with y n reached (acts_with r d counts answers)) z_is
+      ∙ ap (λ o. replayed_with x n o (acts_with r d counts answers)) reached_is
+      ∙ ap (λ m. replayed_with x m (reached_at x.offset x.base m s) (acts_with r d counts answers)) n_is
+      ∙ ap (replayed_with x (length x.known) (reached_at x.offset x.base (length x.known) s))
+      (ap (λ q. acts_with q d counts answers) r_is
+      ∙ ap (λ q. acts_with (started s) q counts answers) (d_is ∙ ap (λ k. dice_of k b) seed_is ∙ ap (dice_of x.seed) b_is)
+      ∙ ap (λ q. acts_with (started s) (dice_of x.seed ballot) q answers) counts_are
       ∙ ap (fresh x.seed ballot s) (answers_are ∙ ap (answers_at s.clients) n_is))
 
 -- ---- a node that goes no further
@@ -52,8 +58,18 @@ module _ {V S : Type 0} (n : ℕ) (sv : Service V S) (me : ℕ) where
   settle_follows (suc t) {d} role = ap (λ r. turn n sv me d r (settle t n sv me)) role
 
 module _ {K : Type 0} {records : K → List (List ℕ)} (gives : K → List ℕ → Answer → K → Type 0) (faults : K → ℕ) {service : Declarations} {past : List Value} {x : NodeValue K} (kept_so : IsKept records service past x) (up : x.up ≡ true) (turns : ℕ) (before : Draft) where
+  abbrev sv : Service Value StateValue
+  sv = service_of service x.seed
+
   abbrev settles : CallHere → CallHere
-  settles = settle turns x.nodes (service_of service x.seed) x.id
+  settles = settle turns x.nodes sv x.id
+
+  abbrev begun : CallHere
+  begun = so_far records service past x before
+
+  -- it is the last round, and the node is this one then
+  abbrev RestsAs : NodeValue K → Draft → Type 0
+  RestsAs z after = GoesRound records gives faults service past turns x z before after (Done On)
 
   u : IsUp service x (here_of records service past x)
   u = kept_so.up up
@@ -72,13 +88,13 @@ module _ {K : Type 0} {records : K → List (List ℕ)} (gives : K → List ℕ 
       by false true o n e f = (refl, sym (ap (λ z. not (is_some z)) n))
       by false false o n e f = absurd (let q : is_none o ≡ true = ap (λ z. is_none z) n in let r : (is_none o && true) ≡ false = e in let s : (is_none o && true) ≡ true = ap (λ t. t && true) q in cc)
 
-  stays : HasGoneOn x.proposer (is_some x.acting) → ((f : Option Failure) → settles (armed_with f (so_far records service past x before)) ≡ armed_with f (so_far records service past x before)) → GoesRound records gives faults service past turns x x before before (Done On)
-  stays gone same = ((leads_same records gives faults service refl same, kept_so, up), record { id = kept_so.id; few = kept_so.few; up = kept_so.up; reached = kept_so.reached; decoded = kept_so.decoded; rests = λ t. gone })
+  stays : HasGoneOn x.proposer (is_some x.acting) → ((f : Option Failure) → settles (armed_with f begun) ≡ armed_with f begun) → RestsAs x before
+  stays gone same = ((leads_same refl same, kept_so, up), kept_rests kept_so gone)
 
-  pub round_rests : goes_on x.proposer (is_some x.acting) ≡ false → IsFree x.proposer (is_some x.acting) → GoesRound records gives faults service past turns x x before before (Done On)
+  pub round_rests : goes_on x.proposer (is_some x.acting) ≡ false → IsFree x.proposer (is_some x.acting) → RestsAs x before
   round_rests g free = by x.proposer refl g free
     where
-      by : (o : Option ProposerValue) → x.proposer ≡ o → goes_on o (is_some x.acting) ≡ false → IsFree o (is_some x.acting) → GoesRound records gives faults service past turns x x before before (Done On)
+      by : (o : Option ProposerValue) → x.proposer ≡ o → goes_on o (is_some x.acting) ≡ false → IsFree o (is_some x.acting) → RestsAs x before
       by None e g free = stays (subst (λ o. HasGoneOn o (is_some x.acting)) (sym e) tt)
           (λ f. settle_follows x.nodes _ x.id turns (ap (λ o. role_of x.acceptor o (is_some x.acting)) e))
       by (Some p) e g free =
@@ -127,7 +143,7 @@ module _ {K : Type 0} {records : K → List (List ℕ)} (gives : K → List ℕ 
       best_none : best i (map proposal_in p.reported) ≡ None
       best_none = bridges.best_is i _ ∙ ap (option_map proposal_in) (none_best _ (subst (λ o. reported_value o i ≡ None) e unreported))
 
-      place : suc (length (known (so_far records service past x before).node.log)) ≡ i
+      place : suc (length (known begun.node.log)) ≡ i
       place = ap (λ vs. suc (length vs)) (sym u.known) ∙ (let n : suc (length x.known) ≡ i = omega (arith, next) in n)
 
       some : turns ≡ suc (turns - 1)
@@ -136,21 +152,21 @@ module _ {K : Type 0} {records : K → List (List ℕ)} (gives : K → List ℕ 
           omega (arith, m)
 
       -- the model's node is active too
-      activates : {f : Option Failure} → settles (armed_with f (so_far records service past x before)) ≡ activate (service_of service x.seed) x.id l (armed_with f (so_far records service past x before))
+      activates : {f : Option Failure} → settles (armed_with f begun) ≡ activate sv x.id l (armed_with f begun)
       activates {f} =
-          ap (λ t. settle t x.nodes (service_of service x.seed) x.id (armed_with f (so_far records service past x before))) some
-          ∙ turn_chooses x.nodes (service_of service x.seed) x.id _ _
+          ap (λ t. settle t x.nodes sv x.id (armed_with f begun)) some
+          ∙ turn_chooses x.nodes sv x.id _ _
           (ap (λ o. role_of x.acceptor o (is_some x.acting)) e) (ap (open_of x.acceptor) none) (ap (λ w. is_some w) idle) (same_majority e ∙ majority)
-          ∙ ap (λ o. choose x.nodes (service_of service x.seed) x.id (armed_with f (so_far records service past x before)) l (suc (length (known (so_far records service past x before).node.log))) o (settle (turns - 1) x.nodes (service_of service x.seed) x.id))
+          ∙ ap (λ o. choose x.nodes sv x.id (armed_with f begun) l (suc (length (known begun.node.log))) o (settle (turns - 1) x.nodes sv x.id))
           (ap (λ j. best j (map proposal_in p.reported)) place ∙ best_none)
 
-      role_is : leading (lead_of x.acceptor p (is_some x.acting)) None [] true ≡ role_of x.acceptor x.proposer true
+      role_is : leading l None [] true ≡ role_of x.acceptor x.proposer true
       role_is =
-          ap (λ ns. leading (lead_of x.acceptor p (is_some x.acting)) None ns true) (sym (proposes.counted none))
-          ∙ ap (λ o. leading (lead_of x.acceptor p (is_some x.acting)) (open_of x.acceptor o) p.accepted true) (sym none)
+          ap (λ ns. leading l None ns true) (sym (proposes.counted none))
+          ∙ ap (λ o. leading l (open_of x.acceptor o) p.accepted true) (sym none)
           ∙ ap (λ o. role_of x.acceptor o true) (sym e)
 
-      comes : (f : Option Failure) → settles (armed_with f (so_far records service past x before)) ≡ armed_with f (so_far records service past z_at after)
+      comes : (f : Option Failure) → settles (armed_with f begun) ≡ armed_with f (so_far records service past z_at after)
       comes f =
           activates
           ∙ call_is
@@ -177,7 +193,7 @@ module _ {K : Type 0} {records : K → List (List ℕ)} (gives : K → List ℕ 
           let b = beside_of records service past x u in
           let g = logged_of records service past x u in
           up_of records service past z_at
-          (logged_as refl refl refl refl refl refl g)
+          (logged_as refl g)
           (record {
             based = g.few;
             replayed = le_refl (length x.known);
@@ -187,22 +203,22 @@ module _ {K : Type 0} {records : K → List (List ℕ)} (gives : K → List ℕ 
             acting = subst (λ o. IsActing service x.known x.acceptor o (Some (fresh x.seed p.ballot h.state told))) (sym e) acts;
             stamped = stamped_in h.sound.by.complete.clients;
             role = subst (λ o. RoleFits (length x.known) (role_of x.acceptor o true)) (sym e)
-                (lead_same (subst (λ o. RoleFits (length x.known) (role_of x.acceptor o (is_some x.acting))) e b.role));
+                (lead_same (lead_fits_of records past u e));
           })
 
       z_reached : HasReached service x.offset x.known (reached_at x.offset x.base (length x.known) h.state)
       z_reached = now_reached service x.offset x.base x.known (le_refl (length x.known)) (ap (λ vs. run service (start_of service) (trace_of vs)) (take_all (length x.known) x.known (le_refl (length x.known))) ∙ h.runs)
 
-      gone : HasGoneOn x.proposer true
-      gone = subst (λ o. HasGoneOn o true) (sym e) (ap not majority)
+      z_kept : IsKept records service past z_at
+      z_kept = record { id = kept_so.id; few = kept_so.few; up = λ _. z_up; reached = z_reached; decoded = kept_so.decoded }
 
-      active_at : GoesRound records gives faults service past turns x z before after (Done On)
-      active_at = subst (λ n. GoesRound records gives faults service past turns x n before after (Done On)) (sym z_is)
-          ((leads_same records gives faults service refl comes, record { id = kept_so.id; few = kept_so.few; up = λ t. z_up; reached = z_reached; decoded = kept_so.decoded }, up), record { id = kept_so.id; few = kept_so.few; up = λ t. z_up; reached = z_reached; decoded = kept_so.decoded; rests = λ t. gone })
+      active_at : RestsAs z after
+      active_at = subst (λ n. RestsAs n after) (sym z_is)
+          ((leads_same refl comes, z_kept, up), kept_rests z_kept (subst (λ o. HasGoneOn o true) (sym e) (ap not majority)))
 
-    pub round_active : GoesRound records gives faults service past turns x z before after (Done On)
+    pub round_active : RestsAs z after
     round_active = by x.proposer refl
       where
-        by : (o : Option ProposerValue) → x.proposer ≡ o → GoesRound records gives faults service past turns x z before after (Done On)
+        by : (o : Option ProposerValue) → x.proposer ≡ o → RestsAs z after
         by None e = absurd (let t : false ≡ true = subst (λ o. goes_on o (is_some x.acting) ≡ true) e goes in cc)
         by (Some p) e = active_at e

@@ -1,5 +1,5 @@
 -- A node that writes down a checkpoint does as the model's.
-use Rattle.rex_node.proofs.Common.{◌≡◌, ℕ, zero, suc, ◌+◌, ◌<◌, ◌≤◌, inl, inr, Bool, true, false, List, [], ◌∷◌, ◌++◌, length, take, Ok, Option, Some, None, refl, sym, ap, subst, ◌∙◌, arith, map, is_ok, is_some, nat_lt, ◌==◌, if◌then◌else◌, list_all, and_from, and_parts, false≢true, eqb-false, length-take-le, take_all, All-weaker, Declarations, IsService, IsChecked, StateValue, start_of, run, IsSound, run_keeps, start_keeps, KeptRec, HasSpelling, IsDue, record_bytes, IsLimited, Answer, version_in, Rec, known, base, Checkpoint, Failure, down_node, append, begin, logged, say, Here, CallHere, Value, runs, service_of, spells, state_after, trace_of, values_fit, state_is, Refusal, Step, Does, EndsDown, armed_with, call_of, if_up, last_of, IsCheckpoint, message_in, standing_in, log_of, read_state, rec_of, ActingValue, NodeValue, IsResting, IsUp, StaysResting, failed_records, here_of, state_of, log_then, is_stated, log_then}
+use Rattle.rex_node.proofs.Common.{◌≡◌, ℕ, zero, suc, ◌+◌, ◌<◌, ◌≤◌, inl, inr, Bool, true, false, List, [], ◌∷◌, ◌++◌, length, take, Ok, Option, Some, None, refl, sym, ap, subst, ◌∙◌, arith, map, is_ok, is_some, nat_lt, ◌==◌, if◌then◌else◌, list_all, and_from, and_parts, eqb-false, length-take-le, take_all, All-weaker, Declarations, IsService, IsChecked, StateValue, start_of, run, IsSound, run_keeps, start_keeps, KeptRec, HasSpelling, IsDue, record_bytes, IsLimited, Answer, version_in, Rec, known, base, Checkpoint, Failure, append, begin, logged, say, Here, CallHere, Value, runs, service_of, spells, state_after, trace_of, values_fit, state_is, Refusal, Step, Does, armed_with, call_of, if_up, IsCheckpoint, message_in, standing_in, log_of, read_state, rec_of, ActingValue, NodeValue, IsResting, IsUp, StaysResting, failed_records, here_of, state_of, log_then, is_stated, Err, le_refl, le_trans, Effect, fallen, ahead_of, Failed}
 use Rattle.std.proofs.Common.{◌≢◌}
 use Rattle.rex_snapshot.specs.Spelling.{EntryFits, HasFewEvents}
 use Rattle.rex_report.specs.declared.effect.Effect.TheVariants as effect
@@ -8,11 +8,12 @@ use Rattle.rex_cluster.specs.Calls.{checkpoint}
 use Rattle.rex_cluster.proofs.Limits.{values_limited}
 use Rattle.rex_node.specs.declared.refusal.Refusal.TheVariants as why
 use Rattle.rex_node.specs.Calls.{refusal_of_checkpoint}
-use Rattle.rex_node.specs.Checkpointing.{FallsSaving, Saves, fallen_with, rebased, replayed_state, replayed_with}
-use Rattle.rex_node.proofs.Appended.{IsLogged, beside_of, call_at, logged_of, up_of}
+use Rattle.rex_node.specs.Checkpointing.{FallsSaving, Saves, replayed_state, replayed_with}
+use Rattle.rex_node.proofs.Appended.{IsLogged, beside_of, call_at, logged_of, up_of, fell_here}
 use Rattle.rex_node.proofs.GoingLemmas.{stated_one, fell_append}
 use Rattle.rex_node.proofs.Executing.{executes}
 use Rattle.rex_cluster.proofs.Replies.{front_runs}
+use Rattle.rex_cluster.specs.Records.{is_old}
 
 -- ---- the state that was replayed
 
@@ -93,10 +94,117 @@ module _ {K : Type 0} {records : K → List (List ℕ)} {service : Declarations}
   pub replayed_limited : IsLimited s
   replayed_limited = front_limited records past up_now good checked (beside_of records service past x up_now).replayed runs_now
 
+-- ---- a state is written down
+
+-- the call writes down the state after so many values, and tells so; what was replayed past it is this one then
+pub record WritesDown {K : Type 0} (records : K → List (List ℕ)) (service : Declarations) (past : List Value) (x : NodeValue K) (version : Version) (n : ℕ) (s : StateValue) (ahead : Option StateValue) (told : Effect) (call : CallHere → CallHere) (r : KeptRec) : Type 0 where
+  pub node : IsResting records service past x
+  pub up : IsUp service x (here_of records service past x)
+  pub written : IsCheckpoint service version n s r
+  pub some : 0 < n
+  pub low : x.base ≤ n
+  pub high : n ≤ x.replayed
+  pub runs : run service (start_of service) (trace_of (take n x.known)) ≡ Some s
+  pub replayed : x.acting ≡ None → run service (start_of service) (trace_of (take x.replayed x.known)) ≡ Some (ahead_of ahead s)
+  pub appends : (g : Option Failure) → call (armed_with g (begin (here_of records service past x))) ≡ append g x.id (Checkpoint version n s) (armed_with g (begin (here_of records service past x))) (say told)
+
+module _ {K : Type 0} {records : K → List (List ℕ)} {service : Declarations} {past : List Value} {x : NodeValue K} {version : Version} {n : ℕ} {s : StateValue} {ahead : Option StateValue} {told : Effect} {call : CallHere → CallHere} {r : KeptRec}
+    (w : WritesDown records service past x version n s ahead told call r) where
+  abbrev here : Here
+  here = here_of records service past x
+
+  abbrev old_log : List (Rec Value StateValue)
+  old_log = log_of service past (records x.keeper)
+
+  abbrev said : Rec Value StateValue
+  said = Checkpoint version n s
+
+  l : IsLogged service x old_log
+  l = logged_of records service past x w.up
+
+  few : n ≤ length x.known
+  few = le_trans w.high (beside_of records service past x w.up).replayed
+
+  pub state_spelling : HasSpelling r
+  state_spelling = subst HasSpelling (sym w.written.is) (record { in_range = (record { first = omega (arith, w.some); last = omega (arith, few, l.numbers.few, ap length w.up.known) }, w.written.short) })
+
+  pub state_due : IsDue (standing_in old_log) r
+  state_due = subst (IsDue (standing_in old_log)) (sym w.written.is) (subst (λ o. o ≤ n) w.up.offset (omega (arith, w.up.low, w.low)), subst (λ vs. n ≤ length vs) w.up.known few)
+
+  stated : is_stated service (record_bytes r) ≡ true
+  stated = ap (λ m. is_stated service (record_bytes m)) w.written.is ∙ ap (λ q. is_ok q) w.written.spells
+
+  log_saved : {lists : List (List ℕ)} → lists ≡ records x.keeper ++ record_bytes r ∷ [] → log_of service past lists ≡ said ∷ old_log
+  log_saved e =
+      ap (log_of service past) e ∙ log_then service past (records x.keeper) r state_spelling state_due
+      ∙ ap (λ m. rec_of service past m ∷ old_log) w.written.is ∙ ap (λ q. Checkpoint (version_in w.written.snapshot) n (read_state service q) ∷ old_log) w.written.spells
+      ∙ ap (λ v. Checkpoint v n s ∷ old_log) w.written.version_is
+
+  module _ (gives : K → List ℕ → Answer → K → Type 0) (faults : K → ℕ) (y : NodeValue K) (step : Step) (sends : step.sends ≡ []) where
+    -- it is kept
+    module _ (effects : step.effects ≡ told ∷ []) (parts : y ≡ record x { keeper = y.keeper; base = n; old_base = is_old version; start = s; ahead = ahead }) (grown : records y.keeper ≡ records x.keeper ++ record_bytes r ∷ []) where
+      log_is : log_of service past (records y.keeper) ≡ said ∷ old_log
+      log_is = log_saved grown
+
+      comes : say told (logged said None (begin here)) ≡ call_of records service past y step
+      comes =
+          ap (λ l. call_at (record here { log = l }) [] (told ∷ [])) (sym log_is)
+          ∙ ap (λ n. call_at (here_of records service past n) [] (told ∷ [])) (sym parts)
+          ∙ ap (λ es. call_at (here_of records service past y) [] es) (sym effects)
+          ∙ ap (λ ms. call_at (here_of records service past y) (map (message_in past) ms) step.effects) (sym sends)
+
+      pub state_does : faults y.keeper ≡ faults x.keeper → gives x.keeper (record_bytes r) (Ok tt) y.keeper → Does records gives faults service past call x y step
+      state_does counted answer =
+          inl (record {
+            written = record_bytes r ∷ [];
+            grown = grown;
+            appends = (Ok tt, y.keeper, answer, (refl, refl));
+            counted = counted;
+            stated = stated_one service (record_bytes r) stated;
+            many = ap length log_is ∙ (let e : suc (length old_log) ≡ 1 + length old_log = omega arith in e);
+            is = w.appends None ∙ comes;
+          })
+
+      abbrev z : NodeValue K
+      z = record x { keeper = y.keeper; base = n; old_base = is_old version; start = s; ahead = ahead }
+
+      z_up : IsUp service z (here_of records service past z)
+      z_up =
+          let b = beside_of records service past x w.up in
+          up_of records service past z
+          (subst (IsLogged service z) (sym log_is)
+          (record {
+            promised = l.promised;
+            accepted = l.accepted;
+            offset_is = l.offset_is;
+            low = omega (arith, l.low, w.low);
+            known = l.known;
+            base = refl;
+            old_base = refl;
+            few = few;
+            start = w.runs;
+            short = l.short;
+            fits = l.fits;
+            numbers = record { ballots = l.numbers.ballots; instances = l.numbers.instances; few = l.numbers.few };
+          }))
+          (record { based = w.high; replayed = b.replayed; ahead = w.replayed; caught_up = b.caught_up; proposer = b.proposer; acting = b.acting; stamped = b.stamped; role = b.role })
+
+      pub state_stays : StaysResting records service past x y
+      state_stays = subst (StaysResting records service past x) (sym parts) (record {
+        same = record { id = refl; nodes = refl; seed = refl; decoded = refl };
+        kept = record { id = w.node.id; few = w.node.few; up = λ _. z_up; reached = w.node.reached; decoded = w.node.decoded; rests = w.node.rests };
+      })
+
+    -- its append failed
+    module _ (effects : step.effects ≡ effect.Down x.id ∷ []) (kept : Bool) (parts : y ≡ record (fallen (record x { base = if kept then n else x.base })) { keeper = y.keeper }) (grown : records y.keeper ≡ failed_records kept (records x.keeper) (record_bytes r)) where
+      pub state_fell : faults x.keeper < faults y.keeper → gives x.keeper (record_bytes r) (Err Failed) y.keeper → Does records gives faults service past call x y step
+      state_fell counted answer = inr (fell_append records gives faults service w.appends x.keeper y.keeper stated kept answer grown counted
+          (fell_here records service past x (record_bytes r) (log_saved refl) w.up.base refl kept grown parts sends effects)).fails
+
 -- ---- the call
 
 module _ {K : Type 0} (records : K → List (List ℕ)) (gives : K → List ℕ → Answer → K → Type 0) (faults : K → ℕ) (service : Declarations) (past : List Value) (x : NodeValue K) (node : IsResting records service past x) (due : refusal_of_checkpoint (here_of records service past x) ≡ None)
-    (version : Version) (s : StateValue) (s_is : s ≡ replayed_state x) (r : KeptRec) (rec : IsCheckpoint service version x.replayed s r) where
+    (version : Version) (s : StateValue) (s_is : s ≡ replayed_state x) (r : KeptRec) (written : IsCheckpoint service version x.replayed s r) where
   abbrev h : Here
   h = here_of records service past x
 
@@ -106,52 +214,24 @@ module _ {K : Type 0} (records : K → List (List ℕ)) (gives : K → List ℕ 
   abbrev call : CallHere → CallHere
   call = checkpoint version (service_of service x.seed) x.id
 
-  abbrev said : Rec Value StateValue
-  said = Checkpoint version x.replayed s
-
   f : IsFree h
   f = free h due
 
   u : IsUp service x h
   u = node.up f.up
 
-  few : x.replayed ≤ length x.known
-  few = (beside_of records service past x u).replayed
-
-  based : x.base ≤ x.replayed
-  based = (beside_of records service past x u).based
-
   more : x.base < x.replayed
-  more = let old : x.replayed ≢ base log = eqb-false x.replayed (base log) f.old in omega (arith, based, u.base, old)
+  more = let old : x.replayed ≢ base log = eqb-false x.replayed (base log) f.old in omega (arith, (beside_of records service past x u).based, u.base, old)
 
-  pub spelling : HasSpelling r
-  spelling = subst HasSpelling (sym rec.is) (record { in_range = (record { first = omega (arith, more); last = omega (arith, few, (logged_of records service past x u).numbers.few, ap length u.known) }, rec.short) })
-
-  is_due : IsDue (standing_in log) r
-  is_due = subst (IsDue (standing_in log)) (sym rec.is) (subst (λ o. o ≤ x.replayed) u.offset (omega (arith, u.low, based)), subst (λ vs. x.replayed ≤ length vs) u.known few)
-
-  stated : is_stated service (record_bytes r) ≡ true
-  stated = ap (λ m. is_stated service (record_bytes m)) rec.is ∙ ap (λ q. is_ok q) rec.spells
-
-  rec_is : rec_of service past r ≡ said
-  rec_is =
-      ap (rec_of service past) rec.is ∙ ap (λ q. Checkpoint (version_in rec.snapshot) x.replayed (read_state service q)) rec.spells
-      ∙ ap (λ v. Checkpoint v x.replayed s) rec.version_is
-
-  log_saved : {lists : List (List ℕ)} → lists ≡ records x.keeper ++ record_bytes r ∷ [] → log_of service past lists ≡ said ∷ log
-  log_saved e = ap (log_of service past) e ∙ log_then service past (records x.keeper) r spelling is_due ∙ ap (λ m. m ∷ log) rec_is
-
-  state_now : state_after service (trace_of (take x.replayed (known log))) ≡ s
-  state_now =
-      ap (λ vs. state_after service (trace_of (take x.replayed vs))) (sym u.known)
-      ∙ state_is service _ _ (replayed_runs records past u) ∙ sym s_is
+  runs_so : run service (start_of service) (trace_of (take x.replayed x.known)) ≡ Some s
+  runs_so = replayed_runs records past u ∙ ap Some (sym s_is)
 
   -- the model appends the state
-  appends : (g : Option Failure) → call (armed_with g (begin h)) ≡ append g x.id said (armed_with g (begin h)) (say (effect.Checkpointed x.id x.replayed))
+  appends : (g : Option Failure) → call (armed_with g (begin h)) ≡ append g x.id (Checkpoint version x.replayed s) (armed_with g (begin h)) (say (effect.Checkpointed x.id x.replayed))
   appends g =
       ap (λ t. checkpoint_if t (nat_lt 0 (length h.work.live)) (state_after service (trace_of (take x.replayed (known log))))) f.old
       ∙ ap (λ t. checkpoint_if false t (state_after service (trace_of (take x.replayed (known log))))) f.idle
-      ∙ ap (checkpoint_if false false) state_now
+      ∙ ap (checkpoint_if false false) (ap (λ vs. state_after service (trace_of (take x.replayed vs))) (sym u.known) ∙ state_is service _ _ runs_so)
     where
       checkpoint_if : Bool → Bool → StateValue → CallHere
       checkpoint_if a b t =
@@ -159,87 +239,19 @@ module _ {K : Type 0} (records : K → List (List ℕ)) (gives : K → List ℕ 
           else if b then say (effect.Live (length h.work.live)) (armed_with g (begin h))
           else append g x.id (Checkpoint version x.replayed t) (armed_with g (begin h)) (say (effect.Checkpointed x.id x.replayed))
 
+  writes : WritesDown records service past x version x.replayed s None (effect.Checkpointed x.id x.replayed) call r
+  writes = record { node = node; up = u; written = written; some = omega (arith, more); low = omega (arith, more); high = le_refl _; runs = runs_so; replayed = λ _. runs_so; appends = appends }
+
+  pub spelling : HasSpelling r
+  spelling = state_spelling writes
+
   module _ (y : NodeValue K) (step : Step) (sends : step.sends ≡ []) where
-    -- it is kept
     module _ (k : Saves records faults gives version x y s (record_bytes r)) (effects : step.effects ≡ effect.Checkpointed x.id x.replayed ∷ []) where
-      log_is : log_of service past (records y.keeper) ≡ said ∷ log
-      log_is = log_saved k.records_are
-
-      comes : say (effect.Checkpointed x.id x.replayed) (logged said None (begin h)) ≡ call_of records service past y step
-      comes =
-          ap (λ l. call_at (record h { log = l }) [] (effect.Checkpointed x.id x.replayed ∷ [])) (sym log_is)
-          ∙ ap (λ n. call_at (here_of records service past n) [] (effect.Checkpointed x.id x.replayed ∷ [])) (sym k.parts)
-          ∙ ap (λ es. call_at (here_of records service past y) [] es) (sym effects)
-          ∙ ap (λ ms. call_at (here_of records service past y) (map (message_in past) ms) step.effects) (sym sends)
-
       pub saved_does : Does records gives faults service past call x y step
-      saved_does =
-          inl (record {
-            written = record_bytes r ∷ [];
-            grown = k.records_are;
-            appends = (Ok tt, y.keeper, k.answer, (refl, refl));
-            counted = k.faults_are;
-            stated = stated_one service (record_bytes r) stated;
-            many = ap length log_is ∙ (let e : suc (length log) ≡ 1 + length log = omega arith in e);
-            is = appends None ∙ comes;
-          })
-
-      z_up : IsUp service (record (rebased version x s) { keeper = y.keeper }) (here_of records service past (record (rebased version x s) { keeper = y.keeper }))
-      z_up =
-          let l = logged_of records service past x u in
-          let b = beside_of records service past x u in
-          let runs : run service (start_of service) (trace_of (take x.replayed x.known)) ≡ Some s = replayed_runs records past u ∙ ap Some (sym s_is) in
-          up_of records service past (record (rebased version x s) { keeper = y.keeper })
-          (subst (IsLogged service (record (rebased version x s) { keeper = y.keeper })) (sym log_is)
-          (record {
-            promised = l.promised;
-            accepted = l.accepted;
-            offset_is = l.offset_is;
-            low = omega (arith, l.low, b.based);
-            known = l.known;
-            base = refl;
-            old_base = refl;
-            few = few;
-            start = runs;
-            short = l.short;
-            fits = l.fits;
-            numbers = record { ballots = l.numbers.ballots; instances = l.numbers.instances; few = l.numbers.few };
-          }))
-          (record { based = omega arith; replayed = b.replayed; ahead = λ _. runs; caught_up = b.caught_up; proposer = b.proposer; acting = b.acting; stamped = b.stamped; role = b.role })
+      saved_does = state_does writes gives faults y step sends effects k.parts k.records_are k.faults_are k.answer
 
       pub saved_stays : StaysResting records service past x y
-      saved_stays = subst (StaysResting records service past x) (sym k.parts) (record {
-        same = record { id = refl; nodes = refl; seed = refl; decoded = refl };
-        kept = record { id = node.id; few = node.few; up = λ _. z_up; reached = node.reached; decoded = node.decoded; rests = node.rests };
-      })
+      saved_stays = state_stays writes gives faults y step sends effects k.parts k.records_are
 
-    -- its append failed
-    module _ (k : FallsSaving records faults gives x y (record_bytes r)) (effects : step.effects ≡ effect.Down x.id ∷ []) where
-      log_in : (b : Bool) {lists : List (List ℕ)} → lists ≡ failed_records b (records x.keeper) (record_bytes r) → log_of service past lists ≡ (if b then said ∷ log else log)
-      log_in true {lists} e = log_saved e
-      log_in false e = ap (log_of service past) e
-
-      base_in : (b : Bool) → (if b then x.replayed else x.base) ≡ base (if b then said ∷ log else log)
-      base_in true = refl
-      base_in false = u.base
-
-      downs : call_of records service past y step ≡ record { node = down_node (if k.kept then said ∷ log else log) None; sends = []; effects = effect.Down x.id ∷ [] }
-      downs =
-          ap (λ ms. call_at (here_of records service past y) (map (message_in past) ms) step.effects) sends
-          ∙ ap (λ es. call_at (here_of records service past y) [] es) effects
-          ∙ ap (λ n. call_at (here_of records service past n) [] (effect.Down x.id ∷ [])) k.parts
-          ∙ ap (λ l. call_at (record (here_of records service past (fallen_with k.kept x)) { log = l }) [] (effect.Down x.id ∷ [])) (log_in k.kept k.records_are)
-          ∙ ap (λ b. call_at (record (here_of records service past (fallen_with k.kept x)) { log = if k.kept then said ∷ log else log; replayed = b }) [] (effect.Down x.id ∷ [])) (base_in k.kept)
-
-      pub fell_does : Does records gives faults service past call x y step
-      fell_does =
-          inr (fell_append records gives faults service appends x.keeper y.keeper stated k.kept k.answer k.records_are k.faults_are downs).fails
-
-      pub fell_down : EndsDown x.id (faults x.keeper) (faults y.keeper) y.up step
-      fell_down = record { down = λ l. ap last_of effects; only = λ e. k.faults_are; quiet = λ l. sends; falls = λ l. ap (λ n. n.up) k.parts }
-
-      pub fell_stays : StaysResting records service past x y
-      fell_stays = subst (StaysResting records service past x) (sym k.parts) (record {
-        same = record { id = refl; nodes = refl; seed = refl; decoded = refl };
-        kept = record { id = node.id; few = node.few; up = λ t. absurd (false≢true t); reached = tt; decoded = node.decoded; rests = λ t. absurd (false≢true t) };
-      })
+    pub fell_does : FallsSaving records faults gives x y (record_bytes r) → step.effects ≡ effect.Down x.id ∷ [] → Does records gives faults service past call x y step
+    fell_does k effects = state_fell writes gives faults y step sends effects k.kept k.parts k.records_are k.faults_are k.answer

@@ -102,7 +102,7 @@ module _ {K : Type 0} {records : K → List (List ℕ)} {gives : K → List ℕ 
 pub breaks_as : {K : Type 0} {records : K → List (List ℕ)} {gives : K → List ℕ → Answer → K → Type 0} {faults : K → ℕ} {service : Declarations} {past : List Value} {whole same : CallHere → CallHere} {x z : NodeValue K} {before : Draft}
     → ((f : Option Failure) → whole (armed_with f (so_far records service past x before)) ≡ same (armed_with f (so_far records service past x before))) → BreaksOff records gives faults service past same x z before → BreaksOff records gives faults service past whole x z before
 breaks_as {records} {gives} {faults} {service} {past} {whole} {same} {x} {z} {before} e h =
-    breaks_later x z before (leads_same records gives faults service refl e) h
+    breaks_later x z before (leads_same refl e) h
 
 -- a node with the same keeper and base has broken off too
 pub breaks_kept : {K : Type 0} {records : K → List (List ℕ)} {gives : K → List ℕ → Answer → K → Type 0} {faults : K → ℕ} {service : Declarations} {past : List Value} {whole : CallHere → CallHere} {x y z : NodeValue K} {before : Draft}
@@ -115,3 +115,15 @@ breaks_kept {records} {gives} {faults} {service} {past} {whole} {x} {before} kee
 -- nothing has changed
 pub stands_same : {K : Type 0} {records : K → List (List ℕ)} {gives : K → List ℕ → Answer → K → Type 0} {faults : K → ℕ} {x : NodeValue K} → Stands records faults gives x x
 stands_same {records} {faults} = record { parts = refl; records = refl; faults = refl; short = inl refl }
+
+-- nothing has changed of a node with the same keeper, and the node that this one was then is taken back
+pub stands_back : {K : Type 0} {records : K → List (List ℕ)} {gives : K → List ℕ → Answer → K → Type 0} {faults : K → ℕ} {x mid y z : NodeValue K} → mid.keeper ≡ x.keeper → z ≡ record x { keeper = y.keeper } → Stands records faults gives mid y → Stands records faults gives x z
+stands_back {records} {gives} {faults} {x} {mid} {y} {z} same z_is s = record {
+  parts = z_is ∙ ap (λ k. record x { keeper = k }) (sym keeper);
+  records = ap records keeper ∙ s.records ∙ ap records same;
+  faults = ap faults keeper ∙ s.faults ∙ ap faults same;
+  short = subst (λ k. RunsShort gives x.keeper k) (sym keeper) (subst (λ k. RunsShort gives k y.keeper) same s.short);
+}
+  where
+    keeper : z.keeper ≡ y.keeper
+    keeper = ap (λ n. n.keeper) z_is

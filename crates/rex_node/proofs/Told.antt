@@ -10,14 +10,8 @@ module _ (service : Declarations) (past : List Value) where
   Told m = IsTold service past m.content
 
   one : (c : Content) → TellsNoState (content_in past c) → IsTold service past c
-  one (sent.Prepare b i) h = tt
-  one (sent.Promise b ps) h = tt
-  one (sent.Accept b i v) h = tt
-  one (sent.Accepted b i) h = tt
-  one (sent.Chosen i v) h = tt
-  one (sent.Nack b p) h = tt
-  one (sent.Ask i) h = tt
   one (sent.Snapshot k bytes) h = absurd h
+  one _ h = tt
 
   -- messages that tell no state tell none wrongly
   pub none_told : (ms : List Message) → TellNoState (map (message_in past) ms) → AreTold service past ms

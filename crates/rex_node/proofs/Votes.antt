@@ -1,5 +1,5 @@
 -- A node says that it accepted the proposal of a node that leads.
-use Rattle.rex_node.proofs.Common.{◌≡◌, ℕ, ◌+◌, Bool, true, false, cond, not, eqb, List, [], ◌∷◌, ◌++◌, length, Option, Some, None, refl, sym, ap, subst, ◌∙◌, arith, length-append, map, is_some, option_map, unwrap_or, IfSome, if◌then◌else◌, All, same_Some, All-head, All-tail, Kept, proposal_for, Vote, Why, AcceptorValue, IsOneOf, AreCounted, is_counted, ProposerValue, acceptance_refusal, acceptance_vote, voted, counted_push, Declarations, StateValue, Answer, Effect, Lead, Service, Leading, IsNodeOf, is_in, is_majority, Call, led, on_own_vote, on_voted, say, settle, Value, service_of, CallHere, acceptance_vote_on, told_of, message_in, On, Draft, proposal_in, NodeValue, ActingValue, HasGoneOn, HasOpen, IsActing, IsKept, IsResting, IsProposer, IsUp, Proposes, here_of, lead_of, open_of, role_of, armed_with, Ends, so_far, LeadFits, RoleFits}
+use Rattle.rex_node.proofs.Common.{◌≡◌, ℕ, ◌+◌, Bool, true, false, cond, not, eqb, List, [], ◌∷◌, ◌++◌, length, Option, Some, None, refl, sym, ap, subst, ◌∙◌, arith, length-append, map, is_some, option_map, unwrap_or, IfSome, if◌then◌else◌, All, same_Some, All-head, All-tail, Kept, proposal_for, Vote, Why, AcceptorValue, IsOneOf, AreCounted, is_counted, ProposerValue, acceptance_refusal, acceptance_vote, voted, counted_push, Declarations, StateValue, Answer, Effect, Lead, Service, Leading, IsNodeOf, is_in, is_majority, Call, led, on_own_vote, on_voted, say, settle, Value, service_of, CallHere, acceptance_vote_on, told_of, message_in, On, Draft, proposal_in, NodeValue, HasGoneOn, HasOpen, IsResting, IsProposer, IsUp, Proposes, here_of, lead_of, open_of, role_of, armed_with, Ends, so_far, LeadFits}
 use Rattle.std.proofs.Common.{eqb-true}
 use Rattle.rex_paxos.specs.declared.answers.Vote.TheVariants as vote
 use Rattle.rex_paxos.specs.declared.answers.Why.TheVariants as why
@@ -10,11 +10,11 @@ use Rattle.rex_report.specs.declared.effect.Effect.TheVariants as effect
 use Rattle.rex_cluster.specs.Calls.{count_vote}
 use Rattle.rex_cluster.specs.Calls as calls
 use Rattle.rex_node.specs.Electing.{accepting_from}
-use Rattle.rex_node.proofs.Appended.{beside_of, logged_of, up_of}
-use Rattle.rex_node.proofs.GoingLemmas.{leads_same}
-use Rattle.rex_node.proofs.Opening.{logged_as}
+use Rattle.rex_node.proofs.Appended.{up_proposing, lead_fits_of}
 use Rattle.rex_node.proofs.Written.{call_is}
 use Rattle.rex_log.proofs.Proposers as bridges
+use Rattle.rex_node.proofs.Counts.{not_yet_is}
+use Rattle.rex_node.proofs.Following.{ends_same}
 
 -- ---- what is made of an acceptance
 
@@ -63,54 +63,65 @@ module _ {nodes id : ℕ} {a : AcceptorValue} {p : ProposerValue} (h : Proposes 
       ∙ ap (λ n. counting.is_majority n (length (p.accepted ++ from ∷ []))) (sym h.nodes_are)
       ∙ ap (counting.is_majority p.nodes) (length-append p.accepted (from ∷ []))
 
+  -- so many have accepted it with this one
+  abbrev many : ℕ
+  many = length p.accepted + 1
+
   -- the proposer's answer, by its tests
   abbrev answer : Bool → Option ℕ → Bool → Vote
-  answer own o again = voted (if not own then Some (why.Ballot ballot p.ballot) else if not (is_open o i) then Some (why.Instance i (unwrap_or o 0)) else if again then Some (why.Again from) else None) p.nodes (length p.accepted + 1)
+  answer own o again = voted (if not own then Some (why.Ballot ballot p.ballot) else if not (is_open o i) then Some (why.Instance i (unwrap_or o 0)) else if again then Some (why.Again from) else None) p.nodes many
+
+  -- what the model does on an answer
+  abbrev does : Vote → CallHere
+  does w = outcome nodes sv id from l w d
+
+  abbrev by_count : Bool → ℕ → CallHere
+  by_count t k = cond t (settle (calls.enough (map proposal_in p.reported)) nodes sv id (led (Leading (one_more nodes sv id from l)) d)) (say (effect.Have k) (led (Leading (one_more nodes sv id from l)) d))
+
+  -- and on a vote for its open proposal
+  abbrev once : Kept → Bool → CallHere
+  once q again = cond again (say (effect.IgnoredAgain from) d) (count_vote nodes sv id (calls.voted l from (proposal_in q)) d)
 
   -- a vote for the open proposal is counted
   counts : {q : Kept} → open_of a p.open_instance ≡ Some (proposal_in q) → is_counted from p.accepted ≡ false
-      → count_vote nodes sv id (calls.voted l from (proposal_in q)) d ≡ outcome nodes sv id from l (voted None p.nodes (length p.accepted + 1)) d
+      → count_vote nodes sv id (calls.voted l from (proposal_in q)) d ≡ does (voted None p.nodes many)
   counts e new =
       ap (λ o. count_vote nodes sv id (record { ballot = p.ballot; counted = p.promised; reported = map proposal_in p.reported; proposal = o; accepted_by = p.accepted ++ from ∷ []; active = active }) d) (sym e)
-      ∙ ap (λ t. cond t (settle (calls.enough (map proposal_in p.reported)) nodes sv id (led (Leading (one_more nodes sv id from l)) d)) (say (effect.Have (length (p.accepted ++ from ∷ []))) (led (Leading (one_more nodes sv id from l)) d))) (majority_more new)
-      ∙ ap (λ k. cond (counting.is_majority p.nodes (length p.accepted + 1)) (settle (calls.enough (map proposal_in p.reported)) nodes sv id (led (Leading (one_more nodes sv id from l)) d)) (say (effect.Have k) (led (Leading (one_more nodes sv id from l)) d))) (length-append p.accepted (from ∷ []))
-      ∙ go (counting.is_majority p.nodes (length p.accepted + 1))
+      ∙ ap (λ t. by_count t (length (p.accepted ++ from ∷ []))) (majority_more new)
+      ∙ ap (by_count (counting.is_majority p.nodes many)) (length-append p.accepted (from ∷ []))
+      ∙ go (counting.is_majority p.nodes many)
     where
-      go : (t : Bool) → cond t (settle (calls.enough (map proposal_in p.reported)) nodes sv id (led (Leading (one_more nodes sv id from l)) d)) (say (effect.Have (length p.accepted + 1)) (led (Leading (one_more nodes sv id from l)) d))
-          ≡ outcome nodes sv id from l (counting.vote_of (if t then count.Quorum else count.NotYet (length p.accepted + 1))) d
+      go : (t : Bool) → by_count t many ≡ does (counting.vote_of (if t then count.Quorum else count.NotYet many))
       go true = refl
       go false = refl
 
   -- the same of an open instance
-  at_open : {o : ℕ} → p.open_instance ≡ Some o → on_own_vote nodes sv id from i d l (open_of a p.open_instance) ≡ outcome nodes sv id from l (answer true (Some o) (is_counted from p.accepted)) d
+  at_open : {o : ℕ} → p.open_instance ≡ Some o → on_own_vote nodes sv id from i d l (open_of a p.open_instance) ≡ does (answer true (Some o) (is_counted from p.accepted))
   at_open {o} e =
       let q = open_at e in
       ap (on_own_vote nodes sv id from i d l) q.1
-      ∙ ap (λ k. cond (eqb k i) (cond (is_in from p.accepted) (say (effect.IgnoredAgain from) d) (count_vote nodes sv id (calls.voted l from (proposal_in q.0)) d)) (say (effect.IgnoredInstance i k) d)) q.2
-      ∙ ap (λ t. cond t (cond (is_in from p.accepted) (say (effect.IgnoredAgain from) d) (count_vote nodes sv id (calls.voted l from (proposal_in q.0)) d)) (say (effect.IgnoredInstance i o) d)) (bridges.same_test o i)
+      ∙ ap (λ k. cond (eqb k i) (once q.0 (is_in from p.accepted)) (say (effect.IgnoredInstance i k) d)) q.2
+      ∙ ap (λ t. cond t (once q.0 (is_in from p.accepted)) (say (effect.IgnoredInstance i o) d)) (bridges.same_test o i)
       ∙ go (eqb i o) q.0 q.1
     where
-      again : (q : Kept) → open_of a p.open_instance ≡ Some (proposal_in q) → (t : Bool) → is_counted from p.accepted ≡ t → cond t (say (effect.IgnoredAgain from) d) (count_vote nodes sv id (calls.voted l from (proposal_in q)) d)
-          ≡ outcome nodes sv id from l (voted (if t then Some (why.Again from) else None) p.nodes (length p.accepted + 1)) d
+      again : (q : Kept) → open_of a p.open_instance ≡ Some (proposal_in q) → (t : Bool) → is_counted from p.accepted ≡ t → once q t ≡ does (voted (if t then Some (why.Again from) else None) p.nodes many)
       again q f true g = refl
       again q f false g = counts f g
 
-      go : (t : Bool) (q : Kept) → open_of a p.open_instance ≡ Some (proposal_in q) → cond t (cond (is_in from p.accepted) (say (effect.IgnoredAgain from) d) (count_vote nodes sv id (calls.voted l from (proposal_in q)) d)) (say (effect.IgnoredInstance i o) d)
-          ≡ outcome nodes sv id from l (voted (if not t then Some (why.Instance i o) else if is_counted from p.accepted then Some (why.Again from) else None) p.nodes (length p.accepted + 1)) d
+      go : (t : Bool) (q : Kept) → open_of a p.open_instance ≡ Some (proposal_in q) → cond t (once q (is_in from p.accepted)) (say (effect.IgnoredInstance i o) d)
+          ≡ does (voted (if not t then Some (why.Instance i o) else if is_counted from p.accepted then Some (why.Again from) else None) p.nodes many)
       go false q f = refl
-      go true q f =
-          ap (λ t. cond t (say (effect.IgnoredAgain from) d) (count_vote nodes sv id (calls.voted l from (proposal_in q)) d)) (bridges.in_counted from _)
-          ∙ again q f (is_counted from p.accepted) refl
+      go true q f = ap (once q) (bridges.in_counted from _) ∙ again q f (is_counted from p.accepted) refl
 
-  at_any : (o : Option ℕ) → p.open_instance ≡ o → on_own_vote nodes sv id from i d l (open_of a p.open_instance) ≡ outcome nodes sv id from l (answer true o (is_counted from p.accepted)) d
+  at_any : (o : Option ℕ) → p.open_instance ≡ o → on_own_vote nodes sv id from i d l (open_of a p.open_instance) ≡ does (answer true o (is_counted from p.accepted))
   at_any None e = ap (λ o. on_own_vote nodes sv id from i d l (open_of a o)) e
   at_any (Some o) e = at_open e
 
   -- the model does what the proposer's answer says
-  voted_is : on_voted nodes sv id from ballot i d (Leading l) ≡ outcome nodes sv id from l (acceptance_vote p ballot i from) d
+  voted_is : on_voted nodes sv id from ballot i d (Leading l) ≡ does (acceptance_vote p ballot i from)
   voted_is = ap (λ t. cond t (on_own_vote nodes sv id from i d l (open_of a p.open_instance)) (say (effect.IgnoredBallot ballot p.ballot) d)) (bridges.same_test p.ballot ballot) ∙ go (eqb ballot p.ballot)
     where
-      go : (t : Bool) → cond t (on_own_vote nodes sv id from i d l (open_of a p.open_instance)) (say (effect.IgnoredBallot ballot p.ballot) d) ≡ outcome nodes sv id from l (answer t p.open_instance (is_counted from p.accepted)) d
+      go : (t : Bool) → cond t (on_own_vote nodes sv id from i d l (open_of a p.open_instance)) (say (effect.IgnoredBallot ballot p.ballot) d) ≡ does (answer t p.open_instance (is_counted from p.accepted))
       go false = refl
       go true = at_any _ refl
 
@@ -126,22 +137,6 @@ open_is : (o : Option ℕ) {i : ℕ} → is_open o i ≡ true → o ≡ Some i
 open_is None e = absurd (cc)
 open_is (Some k) {i} e = ap (λ n. Some n) (sym (eqb-true i k e))
 
-not_yet : (r : Option Why) (nodes : ℕ) {n have : ℕ} → voted r nodes n ≡ vote.NotYet have → (r ≡ None) × (counting.is_majority nodes n ≡ false) × (have ≡ n)
-not_yet (Some w) nodes e = absurd (cc)
-not_yet None nodes {n} {have} e = go (counting.is_majority nodes n) refl e
-  where
-    go : (t : Bool) → counting.is_majority nodes n ≡ t → counting.vote_of (if t then count.Quorum else count.NotYet n) ≡ vote.NotYet have → (let r : Option Why = None in r ≡ None) × (counting.is_majority nodes n ≡ false) × (have ≡ n)
-    go true s f = absurd (cc)
-    go false s f = (refl, s, cc)
-
-pub is_quorum : (r : Option Why) (nodes n : ℕ) → voted r nodes n ≡ vote.Quorum → (r ≡ None) × (counting.is_majority nodes n ≡ true)
-is_quorum (Some w) nodes n e = absurd (cc)
-is_quorum None nodes n e = go (counting.is_majority nodes n) refl e
-  where
-    go : (t : Bool) → counting.is_majority nodes n ≡ t → counting.vote_of (if t then count.Quorum else count.NotYet n) ≡ vote.Quorum → (let r : Option Why = None in r ≡ None) × (counting.is_majority nodes n ≡ true)
-    go true s f = (refl, s)
-    go false s f = absurd (cc)
-
 abbrev told_from : Vote → Effect
 told_from (vote.Ignored w) = told_of w
 told_from _ = effect.IgnoredLate
@@ -152,8 +147,11 @@ module _ {K : Type 0} (records : K → List (List ℕ)) (gives : K → List ℕ 
   u : IsUp service x (here_of records service past x)
   u = node.up up
 
+  abbrev sv : Service Value StateValue
+  sv = service_of service x.seed
+
   abbrev whole : CallHere → CallHere
-  whole d = on_voted x.nodes (service_of service x.seed) x.id from ballot i d d.node.role
+  whole d = on_voted x.nodes sv x.id from ballot i d d.node.role
 
   pub one : IsOneOf x.nodes from
   one = record { first = let a = there.0 in omega arith; last = there.1 }
@@ -163,13 +161,10 @@ module _ {K : Type 0} (records : K → List (List ℕ)) (gives : K → List ℕ 
 
   -- the model's call, by the proposer's answer
   pub whole_is : {p : ProposerValue} → x.proposer ≡ Some p → (d : CallHere) → d.node.role ≡ role_of x.acceptor x.proposer (is_some x.acting)
-      → whole d ≡ outcome x.nodes (service_of service x.seed) x.id from (lead_of x.acceptor p (is_some x.acting)) (acceptance_vote p ballot i from) d
+      → whole d ≡ outcome x.nodes sv x.id from (lead_of x.acceptor p (is_some x.acting)) (acceptance_vote p ballot i from) d
   whole_is {p} e d role =
-      ap (λ r. on_voted x.nodes (service_of service x.seed) x.id from ballot i d r) (role ∙ ap (λ o. role_of x.acceptor o (is_some x.acting)) e)
+      ap (λ r. on_voted x.nodes sv x.id from ballot i d r) (role ∙ ap (λ o. role_of x.acceptor o (is_some x.acting)) e)
       ∙ voted_is (proposes_of e) (is_some x.acting) _ ballot i one d
-
-  kept_so : IsKept records service past x
-  kept_so = record { id = node.id; few = node.few; up = node.up; reached = node.reached; decoded = node.decoded }
 
   -- ---- it isn't counted
 
@@ -178,22 +173,16 @@ module _ {K : Type 0} (records : K → List (List ℕ)) (gives : K → List ℕ 
     where
       by : (o : Option ProposerValue) → x.proposer ≡ o → acceptance_vote_on o ballot i from ≡ vote.Ignored w → whole d ≡ say (told_of w) d
       by None e f =
-          ap (λ r. on_voted x.nodes (service_of service x.seed) x.id from ballot i d r) (role ∙ ap (λ o. role_of x.acceptor o (is_some x.acting)) e)
+          ap (λ r. on_voted x.nodes sv x.id from ballot i d r) (role ∙ ap (λ o. role_of x.acceptor o (is_some x.acting)) e)
           ∙ ap (λ t. say t d) (ap told_from f)
-      by (Some p) e f = whole_is e d role ∙ ap (λ z. outcome x.nodes (service_of service x.seed) x.id from (lead_of x.acceptor p (is_some x.acting)) z d) f
+      by (Some p) e f = whole_is e d role ∙ ap (λ z. outcome x.nodes sv x.id from (lead_of x.acceptor p (is_some x.acting)) z d) f
 
   pub vote_ignored : {w : Why} → acceptance_vote_on x.proposer ballot i from ≡ vote.Ignored w → (after : Draft) → after.effects.items ≡ before.effects.items ++ told_of w ∷ [] → after.sends.items ≡ before.sends.items → Ends records gives faults service past whole x x before after On
-  vote_ignored {w} v after effects sends = (
-    (
-      leads_same records gives faults service refl
-          (λ f. ignores v (armed_with f (so_far records service past x before)) refl
-          ∙ call_is
-          refl refl refl (ap (map (message_in past)) (sym sends)) (sym effects)),
-      kept_so,
-      up,
-    ),
-    node,
-  )
+  vote_ignored v after effects sends =
+      ends_same x before after refl node up
+      (λ f. ignores v (armed_with f (so_far records service past x before)) refl
+      ∙ call_is
+      refl refl refl (ap (map (message_in past)) (sym sends)) (sym effects))
 
   -- ---- it is counted
 
@@ -235,26 +224,10 @@ module _ {K : Type 0} (records : K → List (List ℕ)) (gives : K → List ℕ 
           no_open : p.open_instance ≡ None → ⊥
           no_open z = let t : Some i ≡ None = sym opens ∙ z in cc
 
-      acting_more : (w : Option ActingValue) → IsActing service x.known x.acceptor (Some p) w → IsActing service x.known x.acceptor (Some q) w
-      acting_more None h = h
-      acting_more (Some a) h = h
-
       y_up : IsUp service y_at (here_of records service past y_at)
       y_up =
-          let b = beside_of records service past x u in
-          let g = logged_of records service past x u in
-          up_of records service past y_at
-          (logged_as refl refl refl refl refl refl g)
-          (record {
-            based = b.based;
-            replayed = b.replayed;
-            ahead = b.ahead;
-            caught_up = b.caught_up;
-            proposer = proposes_more;
-            acting = acting_more x.acting (subst (λ o. IsActing service x.known x.acceptor o x.acting) e b.acting);
-            stamped = b.stamped;
-            role = let f : LeadFits (length x.known) (lead_of x.acceptor p (is_some x.acting)) = subst (λ o. RoleFits (length x.known) (role_of x.acceptor o (is_some x.acting))) e b.role in record { ballot = f.ballot; reported = f.reported; next = f.next };
-          })
+          let f : LeadFits (length x.known) (lead_of x.acceptor p (is_some x.acting)) = lead_fits_of records past u e in
+          up_proposing records past u e refl proposes_more (record { ballot = f.ballot; reported = f.reported; next = f.next })
 
       y_node : IsResting records service past y_at
       y_node = record { id = node.id; few = node.few; up = λ t. y_up; reached = node.reached; decoded = node.decoded; rests = λ t. let h : HasGoneOn (Some p) (is_some x.acting) = subst (λ o. HasGoneOn o (is_some x.acting)) e (node.rests up) in h }
@@ -263,18 +236,12 @@ module _ {K : Type 0} (records : K → List (List ℕ)) (gives : K → List ℕ 
       vote_at = ap (λ r. voted r p.nodes (length p.accepted + 1)) none ∙ ap (λ t. counting.vote_of (if t then count.Quorum else count.NotYet (length p.accepted + 1))) few
 
       counted_at : (after : Draft) → after.effects.items ≡ before.effects.items ++ effect.Have (length p.accepted + 1) ∷ [] → after.sends.items ≡ before.sends.items → Ends records gives faults service past whole x y_at before after On
-      counted_at after effects sends = (
-        (
-          leads_same records gives faults service refl
-              (λ f. whole_is e _ refl
-              ∙ ap (λ z. outcome x.nodes (service_of service x.seed) x.id from (lead_of x.acceptor p (is_some x.acting)) z (armed_with f (so_far records service past x before))) vote_at
-              ∙ call_is
-              refl refl refl (ap (map (message_in past)) (sym sends)) (sym effects)),
-          record { id = node.id; few = node.few; up = λ t. y_up; reached = node.reached; decoded = node.decoded },
-          up,
-        ),
-        y_node,
-      )
+      counted_at after effects sends =
+          ends_same x before after refl y_node up
+          (λ f. whole_is e _ refl
+          ∙ ap (λ z. outcome x.nodes sv x.id from (lead_of x.acceptor p (is_some x.acting)) z (armed_with f (so_far records service past x before))) vote_at
+          ∙ call_is
+          refl refl refl (ap (map (message_in past)) (sym sends)) (sym effects))
 
   pub vote_counted : {have : ℕ} → acceptance_vote_on x.proposer ballot i from ≡ vote.NotYet have → {y : NodeValue K} → y ≡ accepting_from x ballot i from → (after : Draft) → after.effects.items ≡ before.effects.items ++ effect.Have have ∷ [] → after.sends.items ≡ before.sends.items
       → Ends records gives faults service past whole x y before after On
@@ -283,7 +250,7 @@ module _ {K : Type 0} (records : K → List (List ℕ)) (gives : K → List ℕ 
       by : (o : Option ProposerValue) → x.proposer ≡ o → acceptance_vote_on o ballot i from ≡ vote.NotYet have → Ends records gives faults service past whole x y before after On
       by None e f = absurd (cc)
       by (Some p) e f =
-          let n = not_yet _ p.nodes f in
+          let n = not_yet_is _ p.nodes f in
           let all : y ≡ record x { proposer = Some (record p { accepted = p.accepted ++ from ∷ [] }) } =
           y_is ∙ ap (λ o. record x { proposer = option_map (λ q. acceptance_counted q ballot i from) o }) e ∙ ap (λ q. record x { proposer = Some q }) (q_is p e n.0 n.1) in
           subst (λ z. Ends records gives faults service past whole x z before after On) (sym all)

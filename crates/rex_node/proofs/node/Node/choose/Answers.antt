@@ -1,6 +1,6 @@
 use Rattle.rex_node.proofs.Common.{rules, Some, ap, sym, ◌∙◌, whole}
 use Rattle.rex_node.proofs.Written.{on_err}
-use Rattle.rex_node.proofs.Adopting.{known_as, learns_as, longer_as}
+use Rattle.rex_node.proofs.Adopting.{made_known_as}
 use Rattle.rex_node.proofs.Majorities.{choose_down, choose_fits, choose_may, choose_stuck, chosen_ends, chosen_may, chosen_of, chosen_stuck}
 use Rattle.rex_node.proofs.node.Node.choose.Goals as goal
 
@@ -18,39 +18,32 @@ pub returns-in-Down : goal.returns-in-Down
 returns-in-Down g c = record {
   ends = choose_down _ _ c.declarations-service.ensures.sound c.declarations-service.ensures.checked c.requires.may.node c.requires.may.up c.requires.from c.args.draft.now
       (chosen_of c.requires.vote (sym c.in_ok-value.ensures ∙ c.in-Some.is ∙ ap (λ v. Some v) (sym c.as_slice.ensures)))
-      c.learn.new.draft c.in_ok-learn.ensures.same
-      (learns_as _ _ _ _ _ (whole g.P.Past.past c.args.self.now) _ c.args.draft.now c.learn.new.draft _ _ c.in-Down.is c.in_ok-learn.ensures.learns);
+      c.learn.new.draft c.in-Down.is c.in_ok-learn.ensures.same c.in_ok-learn.ensures.learns;
   stuck = search rules;
   same = search rules;
 }
 
 pub go_on-requires : goal.go_on-requires
 go_on-requires g c = record {
-  may = chosen_may g.K.Keeper.append_gives g.K.Keeper.faults c.declarations-service.ensures.sound c.declarations-service.ensures.checked c.requires.may.node c.requires.may.up c.requires.from c.args.draft.now
+  may = chosen_may _ _ c.declarations-service.ensures.sound c.declarations-service.ensures.checked c.requires.may.node c.requires.may.up c.requires.from c.args.draft.now
       (chosen_of c.requires.vote (sym c.in_ok-value.ensures ∙ c.in-Some.is ∙ ap (λ v. Some v) (sym c.as_slice.ensures)))
       c.learn.new.draft c.in_ok-learn.ensures.same
-      (learns_as g.K.Keeper.records g.K.Keeper.append_gives g.K.Keeper.faults c.args.svc.now g.P.Past.past (whole g.P.Past.past c.args.self.now) (whole g.P.Past.past c.learn.new.self) c.args.draft.now c.learn.new.draft c.args.instance c.as_slice.result.now c.in-On.is c.in_ok-learn.ensures.learns)
-      (known_as c.args.svc.now (whole g.P.Past.past c.args.self.now) c.args.instance c.as_slice.result.now c.in-On.is c.in_ok-learn.ensures.parts)
-      (longer_as g.K.Keeper.records (whole g.P.Past.past c.args.self.now) (whole g.P.Past.past c.learn.new.self) c.in-On.is c.in_ok-learn.ensures.longer)
+      (made_known_as (whole g.P.Past.past c.learn.new.self) c.in-On.is c.in_ok-learn.ensures.learns c.in_ok-learn.ensures.parts c.in_ok-learn.ensures.longer)
       c.turns-turns.ensures c.requires.runs c.requires.may.count;
 }
 
 pub returns : goal.returns
 returns g c = record {
-  ends = chosen_ends g.K.Keeper.append_gives g.K.Keeper.faults c.declarations-service.ensures.sound c.declarations-service.ensures.checked c.requires.may.node c.requires.may.up c.requires.from c.args.draft.now
+  ends = chosen_ends _ _ c.declarations-service.ensures.sound c.declarations-service.ensures.checked c.requires.may.node c.requires.may.up c.requires.from c.args.draft.now
       (chosen_of c.requires.vote (sym c.in_ok-value.ensures ∙ c.in-Some.is ∙ ap (λ v. Some v) (sym c.as_slice.ensures)))
       c.learn.new.draft c.in_ok-learn.ensures.same
-      (learns_as g.K.Keeper.records g.K.Keeper.append_gives g.K.Keeper.faults c.args.svc.now g.P.Past.past (whole g.P.Past.past c.args.self.now) (whole g.P.Past.past c.learn.new.self) c.args.draft.now c.learn.new.draft c.args.instance c.as_slice.result.now c.in-On.is c.in_ok-learn.ensures.learns)
-      (known_as c.args.svc.now (whole g.P.Past.past c.args.self.now) c.args.instance c.as_slice.result.now c.in-On.is c.in_ok-learn.ensures.parts)
-      (longer_as g.K.Keeper.records (whole g.P.Past.past c.args.self.now) (whole g.P.Past.past c.learn.new.self) c.in-On.is c.in_ok-learn.ensures.longer)
+      (made_known_as (whole g.P.Past.past c.learn.new.self) c.in-On.is c.in_ok-learn.ensures.learns c.in_ok-learn.ensures.parts c.in_ok-learn.ensures.longer)
       c.turns-turns.ensures
       (whole g.P.Past.past c.go_on.new.self) c.go_on.new.draft c.go_on.result c.go_on.ensures.ends;
-  stuck = chosen_stuck g.K.Keeper.append_gives g.K.Keeper.faults c.declarations-service.ensures.sound c.declarations-service.ensures.checked c.requires.may.node c.requires.may.up c.requires.from c.args.draft.now
+  stuck = chosen_stuck _ _ c.declarations-service.ensures.sound c.declarations-service.ensures.checked c.requires.may.node c.requires.may.up c.requires.from c.args.draft.now
       (chosen_of c.requires.vote (sym c.in_ok-value.ensures ∙ c.in-Some.is ∙ ap (λ v. Some v) (sym c.as_slice.ensures)))
       c.learn.new.draft c.in_ok-learn.ensures.same
-      (learns_as g.K.Keeper.records g.K.Keeper.append_gives g.K.Keeper.faults c.args.svc.now g.P.Past.past (whole g.P.Past.past c.args.self.now) (whole g.P.Past.past c.learn.new.self) c.args.draft.now c.learn.new.draft c.args.instance c.as_slice.result.now c.in-On.is c.in_ok-learn.ensures.learns)
-      (known_as c.args.svc.now (whole g.P.Past.past c.args.self.now) c.args.instance c.as_slice.result.now c.in-On.is c.in_ok-learn.ensures.parts)
-      (longer_as g.K.Keeper.records (whole g.P.Past.past c.args.self.now) (whole g.P.Past.past c.learn.new.self) c.in-On.is c.in_ok-learn.ensures.longer)
+      (made_known_as (whole g.P.Past.past c.learn.new.self) c.in-On.is c.in_ok-learn.ensures.learns c.in_ok-learn.ensures.parts c.in_ok-learn.ensures.longer)
       c.turns-turns.ensures
       (whole g.P.Past.past c.go_on.new.self) c.go_on.result c.go_on.ensures.stuck;
   same = search rules;
