@@ -1,10 +1,9 @@
 //! The world of a run, whose nodes keep their records in lists or in journals.
 
-ghost use Rattle.std.specs.Prelude.{◌≡◌, IfOk, length};
-ghost use Rattle.std.specs.List.{All};
+ghost use Rattle.std.specs.Prelude.{◌≡◌, IfOk};
 ghost use Rattle.rex_journal.specs.Storing.{journal_value};
 ghost use Rattle.rex_schedule.specs.Fits.{ScenarioFits};
-ghost use Rattle.rex_world.specs.Members.{IsFresh};
+ghost use Rattle.rex_world.specs.Members.{AreFresh};
 ghost use Rattle.rex_cli.specs.Worlds.{IsBegun, is_in_journals};
 
 use crate::answers::Plan;
@@ -26,8 +25,7 @@ pub(crate) enum KeptWorld {
 
 // An empty journal for each node, each on a disk of its own.
 fn journals(alloc: Global, nodes: u8) -> Result<Vec<Journal>, AllocError>
-    ensures many { IfOk result (λ keepers. length keepers.items ≡ nodes) }
-    ensures fresh { IfOk result (λ keepers. All (IsFresh journal_value) keepers.items) }
+    ensures { IfOk result (λ keepers. AreFresh journal_value nodes keepers.items) }
 {
     let mut keepers = Vec::new(alloc);
     for _ in 0..nodes {

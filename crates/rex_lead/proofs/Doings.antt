@@ -20,10 +20,10 @@ use Rattle.rex_node.specs.declared.refusal.Refusal.{Refusal}
 use Rattle.rex_node.specs.declared.refusal.Refusal.TheVariants as why
 use Rattle.rex_steady.specs.Schedule.{takes, agreement, agreements, replays}
 use Rattle.rex_world.specs.declared.world.World.{World}
-use Rattle.rex_world.specs.Taking.{takes_at}
+use Rattle.rex_world.specs.Taking.{WasHanded, takes_at}
 use Rattle.rex_world.specs.Calls.{IsWhole}
 use Rattle.rex_world.specs.World.{nodes_of, world_of}
-use Rattle.rex_world.specs.Kept.{IsRunning, IsSame}
+use Rattle.rex_world.specs.Kept.{IsRunning}
 use Rattle.rex_lead.specs.Doing.{Did}
 
 -- ---- lists of doings
@@ -137,14 +137,12 @@ module _ {S : Type 0} (service : Declarations) (before after : World S) (es : Li
       go None h k = absurd (subst (λ (q : Refusal). IsWhole {A = Unit {0}} (Err q)) k whole)
 
   -- a world that isn't broken took the events as the model does
-  pub took : (result : Result (Unit {0}) Refusal) → after.broken ≡ false → (result ≡ Err why.OutOfMemory → after.broken ≡ true)
-      → Refuses (refusal_active (node_at (world_of service before).nodes 1)) result
-      → OnOk result (world_of service after ≡ after_doings service before.requests before.seed (nodes_of before) (world_of service before) (takes_at 1 es)) → OnErr result (world_of service after ≡ world_of service before)
-      → (IsWhole result → IsRunning service after) → IsSame before after → Did service before after (takes es)
-  took result sound broken refuses ok err running same =
-      let whole : IsWhole result = whole_of result (λ h. false≢true (sym sound ∙ broken h)) in
+  pub took : (result : Result (Unit {0}) Refusal) → after.broken ≡ false → WasHanded service before after 1 result
+      → OnOk result (world_of service after ≡ after_doings service before.requests before.seed (nodes_of before) (world_of service before) (takes_at 1 es)) → Did service before after (takes es)
+  took result sound was ok =
+      let whole : IsWhole result = whole_of result (λ h. false≢true (sym sound ∙ was.broken h)) in
       record {
-        world = handed result whole refuses (subst (λ (xs : List Doing). OnOk result (world_of service after ≡ after_doings service before.requests before.seed (nodes_of before) (world_of service before) xs)) (takes_are es) ok) err;
-        running = running whole;
-        same = same;
+        world = handed result whole was.refused (subst (λ (xs : List Doing). OnOk result (world_of service after ≡ after_doings service before.requests before.seed (nodes_of before) (world_of service before) xs)) (takes_are es) ok) was.unchanged;
+        running = was.running whole;
+        same = was.same;
       }

@@ -1,5 +1,5 @@
 -- A line that arms the keeper of a node.
-use Rattle.rex_world.proofs.Common.{◌≡◌, ℕ, ◌+◌, ◌-◌, ◌≤◌, ◌<◌, ◌^◌, Bool, true, false, List, length, Some, refl, sym, ◌∙◌, ap, subst, arith, if◌then◌else◌, slice_index_or, slice_set, Vec, most_nodes, Declarations, Request, Fate, KeeperValue, IsNode, After, Value, Here, ModelWorld, node_at, put, row, agreed, IsKept, NodeValue, IsKeptNode, World, Member, AreMembers, IsKeeping, IsMember, faults_of, here_at, heres, records_of, nodes_of, world_of, IsRunning}
+use Rattle.rex_world.proofs.Common.{◌≡◌, ℕ, ◌+◌, ◌-◌, ◌≤◌, ◌<◌, ◌^◌, Bool, true, false, List, length, Some, refl, sym, ◌∙◌, ap, subst, arith, if◌then◌else◌, slice_index_or, slice_set, Vec, most_nodes, Declarations, Request, Fate, KeeperValue, IsNode, After, Value, Here, ModelWorld, node_at, put, row, agreed, IsKept, NodeValue, IsKeptNode, World, Member, AreMembers, IsKeeping, IsMember, faults_of, here_at, heres, records_of, nodes_of, world_of, IsRunning, node_in}
 use Rattle.std.proofs.lemmas.List.{append-nil}
 use Rattle.rex_traits.specs.declared.mem_keeper.Fate.TheVariants as fate
 use Rattle.rex_traits.specs.Keeping.{armed_to}
@@ -88,7 +88,7 @@ module _ {S : Type 0} (service : Declarations) (w : World S) (h : IsRunning serv
   nodes_so : nodes.items ≡ slice_set w.nodes.items (m - 1) (armed_member (fate_if kept) x)
   nodes_so = nodes_are ∙ ap (λ g. slice_set w.nodes.items (m - 1) (armed_member g x)) f_is
 
-  heres_after : heres service w.agreed nodes.items ≡ put (heres service w.agreed w.nodes.items) m (record (node_at (heres service w.agreed w.nodes.items) m) { armed = Some (After 0 kept) })
+  heres_after : heres service w.agreed nodes.items ≡ put (heres service w.agreed w.nodes.items) m (record (node_in service w m) { armed = Some (After 0 kept) })
   heres_after =
       now_put _ there _ x_is nodes_so service w.agreed
       ∙ ap (put (heres service w.agreed w.nodes.items) m) (here_armed service w.agreed kept x ∙ ap (λ z. let a : Here = record z { armed = Some (After 0 kept) } in a) (sym (at_old _ there _ x_is nodes_so service w.agreed)))

@@ -1,19 +1,23 @@
 -- A world before the first line.
-use Rattle.rex_world.proofs.Common.{◌≡◌, ℕ, zero, suc, ◌+◌, ◌≤◌, Bool, true, false, List, [], ◌∷◌, ◌++◌, length, take, refl, sym, ◌∙◌, ap, subst, arith, add-zero, length-append, ◌&&◌, replicate_next, All, list_all, All-nil, most_nodes, Declarations, IsService, IsChecked, RequestFits, Message, Value, Here, ModelWorld, beginning, agreed, longer_of, longest, IsKept, World, Member, AreMembers, AreWithin, IsMember, faults_of, here_at, heres, IsSpelled, TellsRightly, messages_of, world_of, IsRunning}
+use Rattle.rex_world.proofs.Common.{◌≡◌, ℕ, zero, suc, ◌+◌, ◌≤◌, Bool, true, false, List, [], ◌∷◌, ◌++◌, length, take, refl, sym, ◌∙◌, ap, subst, arith, add-zero, length-append, ◌&&◌, replicate_next, All, list_all, All-nil, most_nodes, Declarations, IsService, IsChecked, RequestFits, Scenario, Message, Value, Here, ModelWorld, beginning, agreed, longer_of, longest, IsKept, World, Member, AreMembers, AreWithin, IsFresh, IsMember, faults_of, here_at, heres, IsSpelled, TellsRightly, messages_of, world_of, IsRunning, AreFresh, AreNew}
 use Rattle.std.proofs.Common.{replicate}
 use Rattle.std.proofs.lemmas.Bool.{leb-true}
+use Rattle.std.proofs.lemmas.List.Elements.{All-push}
 use Rattle.rex_schedule.specs.Counts.{is_node_count}
+use Rattle.rex_schedule.specs.Fits.{ScenarioFits}
 use Rattle.rex_cluster.specs.Node.{new_node}
+use Rattle.rex_traits.specs.Stores.{StoreValue, fresh_store}
 use Rattle.rex_cluster.specs.Reading.{nothing_seen}
 use Rattle.rex_safety.proofs.Keeps.{beginning_kept}
+use Rattle.rex_world.specs.Kept.{CanRun, IsFirst}
 use Rattle.rex_world.proofs.Endings.{heres_both}
 
--- the nodes so far, before the first line
-pub record AreNew (service : Declarations) (seed nodes number : ℕ) (xs : List Member) : Type 0 where
-  pub here : heres service [] xs ≡ replicate number new_node
-  pub are : AreMembers service [] seed nodes 1 xs
-  pub within : AreWithin 0 xs
-  pub many : length xs ≡ number
+-- one more fresh store
+pub fresh_next : {K : Type 0} {value : K → StoreValue} {count : ℕ} {xs ys : List K} {x : K} → AreFresh value count xs → value x ≡ fresh_store → ys ≡ xs ++ x ∷ [] → AreFresh value (count + 1) ys
+fresh_next {value} {xs} {x} h is e = record {
+  many = ap length e ∙ length-append xs (x ∷ []) ∙ ap (λ n. n + 1) h.many;
+  fresh = subst (All (IsFresh value)) (sym e) (All-push (IsFresh value) xs x h.fresh (record { is = is }));
+}
 
 members_more : {service : Declarations} {seed nodes : ℕ} (k : ℕ) (xs : List Member) {x : Member} → AreMembers service [] seed nodes k xs → IsMember service [] seed nodes (k + length xs) x → AreMembers service [] seed nodes k (xs ++ x ∷ [])
 members_more {service} {seed} {nodes} k [] {x} all one = (subst (λ m. IsMember service [] seed nodes m x) (add-zero k) one, tt)
@@ -51,7 +55,7 @@ abbrev model_of : ℕ → List Here → List (Message Value) → List Bool → L
 model_of done nodes messages handed seen = record { done = done; nodes = nodes; messages = messages; handed = handed; seen = seen }
 
 -- the world of the model before the first line
-pub begins : {S : Type 0} → {service : Declarations} {seed n : ℕ} (w : World S) → AreNew service seed n n w.nodes.items → w.agreed ≡ [] → w.net ≡ [] → w.handed.items ≡ [] → w.seen.items ≡ nothing_seen → w.done ≡ 0 → world_of service w ≡ beginning n
+begins : {S : Type 0} → {service : Declarations} {seed n : ℕ} (w : World S) → AreNew service seed n n w.nodes.items → w.agreed ≡ [] → w.net ≡ [] → w.handed.items ≡ [] → w.seen.items ≡ nothing_seen → w.done ≡ 0 → world_of service w ≡ beginning n
 begins {service} {n} w h none net handed seen done =
     ap (λ d. model_of d (heres service w.agreed w.nodes.items) (messages_of w.agreed w.net) w.handed.items w.seen.items) done
     ∙ ap (λ vs. model_of 0 (heres service vs w.nodes.items) (messages_of vs w.net) w.handed.items w.seen.items) none
@@ -65,7 +69,7 @@ none_agreed : (n : ℕ) → longest (replicate n new_node) ≡ []
 none_agreed zero = refl
 none_agreed (suc n) = ap (longer_of []) (none_agreed n)
 
-pub new_running : {S : Type 0} → {service : Declarations} {n : ℕ} {w : World S} → n ≤ most_nodes → IsService service → IsChecked service → All (RequestFits service) w.requests → AreNew service w.seed n n w.nodes.items
+new_running : {S : Type 0} → {service : Declarations} {n : ℕ} {w : World S} → n ≤ most_nodes → IsService service → IsChecked service → All (RequestFits service) w.requests → AreNew service w.seed n n w.nodes.items
     → w.agreed ≡ [] → w.net ≡ [] → w.handed.items ≡ [] → w.seen.items ≡ nothing_seen → w.done ≡ 0 → w.flushed ≡ 0 → w.broken ≡ false → IsRunning service w
 new_running {service} {n} {w} few good checked fit h none net handed seen done flushed whole =
     record {
@@ -85,3 +89,23 @@ new_running {service} {n} {w} few good checked fit h none net handed seen done f
       handed = subst (λ k. list_all (λ b. b) (take k w.handed.items) ≡ true) (sym flushed) refl;
       clients = ap length seen;
     }
+
+-- so it is the scenario's world before its first line
+pub new_first : {S : Type 0} → {service : Declarations} {s : Scenario} {w : World S} → ScenarioFits service s → IsService service → IsChecked service → w.requests ≡ s.requests → w.seed ≡ s.seed → AreNew service w.seed s.nodes s.nodes w.nodes.items
+    → w.agreed ≡ [] → w.net ≡ [] → w.handed.items ≡ [] → w.seen.items ≡ nothing_seen → w.done ≡ 0 → w.flushed ≡ 0 → w.broken ≡ false → IsFirst service s w
+new_first {service} {w} fits good checked requests seed h none net handed seen done flushed whole = record {
+  world = begins w h none net handed seen done;
+  nodes = h.many;
+  requests = requests;
+  seed = seed;
+  running = new_running (few_nodes fits.nodes) good checked (subst (All (RequestFits service)) (sym requests) fits.requests) h none net handed seen done flushed whole;
+}
+
+-- and the scenario can be run from there
+pub first_can_run : {S : Type 0} → {service : Declarations} {s : Scenario} {w : World S} → ScenarioFits service s → IsFirst service s w → CanRun service s w
+first_can_run fits h = record {
+  running = h.running;
+  fits = fits;
+  of = record { nodes = h.nodes; requests = h.requests; seed = h.seed };
+  count = omega (arith, ap (λ v. v.done) h.world, fits.few_lines);
+}

@@ -88,9 +88,6 @@ module _ {S : Type 0} {service : Declarations} {w : World S} (h : IsRunning serv
   handed_was : {outcome : Result (Unit {0}) Refusal} → Handed outcome → IsHandedBlock service es (node_at before.nodes m) (here_at service w.agreed new) outcome
   handed_was {outcome} a = subst (λ x. IsHandedBlock service es x (here_at service w.agreed new) outcome) (sym (at_old _ there new old_is nodes_are service w.agreed)) a
 
-  pub block_refused : {outcome : Result (Unit {0}) Refusal} → Handed outcome → Refuses (refusal_active (node_at before.nodes m)) outcome
-  block_refused {outcome} a = (handed_was a).refused
-
   pub block_world : (broken : Bool) (outcome : Result (Unit {0}) Refusal) → Handed outcome → OnOk outcome (world_of service (later broken) ≡ after_doings service w.requests w.seed (nodes_of w) before (takes_at m es))
   block_world broken (Err r) a = tt
   block_world broken (Ok t) a =
@@ -99,7 +96,7 @@ module _ {S : Type 0} {service : Declarations} {w : World S} (h : IsRunning serv
       given_put h there nodes old_is nodes_are stays broken c.takes
       ∙ takes_are service _ w.seed _ m es before (subst (λ k. IsNode k m) (sym (many_here service w.agreed _)) there) n.0 n.1
 
-  pub block_unchanged : (broken : Bool) (outcome : Result (Unit {0}) Refusal) → Handed outcome → OnErr outcome (world_of service (later broken) ≡ before)
+  block_unchanged : (broken : Bool) (outcome : Result (Unit {0}) Refusal) → Handed outcome → OnErr outcome (world_of service (later broken) ≡ before)
   block_unchanged broken (Ok t) a = tt
   block_unchanged broken (Err r) a = given_still h there nodes old_is nodes_are stays broken a.same
 

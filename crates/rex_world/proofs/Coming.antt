@@ -102,7 +102,6 @@ pub record CameTo {S : Type 0} (service : Declarations) (before after : World S)
   pub works : IsUnsettled service after
   pub same : IsSame before after
   pub done : after.done ≡ before.done
-  pub flushed : after.flushed ≡ before.flushed
   pub stood : after.agreed ≡ before.agreed
 
 -- a node's step was told, its messages were sent, and clients have seen its replies; of the world before only its nodes are others
@@ -118,9 +117,6 @@ module _ {S : Type 0} {service : Declarations} {w w2 : World S} (h : IsRunning s
   -- a world that sent these messages
   abbrev sent_world : World S
   sent_world = record w { nodes = nodes; net = w2.net; handed = w2.handed; seen = w2.seen }
-
-  there : Here
-  there = node_at (heres service w.agreed nodes.items) m
 
   nodes_are : heres service w.agreed nodes.items ≡ put (heres service w.agreed w.nodes.items) m d.node
   nodes_are = others ∙ ap (put (heres service w.agreed w.nodes.items) m) come.node
@@ -181,6 +177,5 @@ module _ {S : Type 0} {service : Declarations} {w w2 : World S} (h : IsRunning s
     works = running_after many all told_right (subst (IsKept service w.seed (nodes_of w)) (sym world_after) kept);
     same = record { nodes = ap nodes_of tells.rest ∙ many; requests = ap (λ v. v.requests) tells.rest; seed = ap (λ v. v.seed) tells.rest };
     done = ap (λ v. v.done) tells.rest;
-    flushed = ap (λ v. v.flushed) tells.rest;
     stood = ap (λ v. v.agreed) tells.rest;
   }

@@ -76,10 +76,10 @@ pub use Rattle.rex_world.specs.Agreed.{learned, learned_in}
 pub use Rattle.rex_world.specs.Calls.{AreReleased, ComesTo, Did, HasCome, IsSettled, Sends, Starts, call_at, served, started, step_in}
 pub use Rattle.rex_world.specs.Finding.{IsSent}
 pub use Rattle.rex_world.specs.Kept.{IsOf, IsRunning, IsSame}
-pub use Rattle.rex_world.specs.Members.{AreKept, AreMembers, AreWithin, IsFresh, IsKeeping, IsMember, Member, StaysMember, armed_of, disarmed, faults_of, here_at, heres, records_at, records_of}
+pub use Rattle.rex_world.specs.Members.{AreKept, AreMembers, AreWithin, IsFresh, IsKeeping, IsMember, Member, StaysMember, armed_of, disarmed, faults_of, here_at, heres, records_at, records_of, AreFresh, AreNew, IsOwnMember, StaysOwnMember}
 pub use Rattle.rex_world.specs.Report.{effects_text, ends_text, report_from}
 pub use Rattle.rex_world.specs.Summaries.{is_release, releases_from}
-pub use Rattle.rex_world.specs.World.{IsSpelled, TellsIn, TellsRightly, message_of, messages_of, nodes_of, read_message, world_of}
+pub use Rattle.rex_world.specs.World.{IsSpelled, TellsIn, TellsRightly, message_of, messages_of, nodes_of, read_message, world_of, node_in, row_in}
 pub use Rattle.rex_world.specs.Writing.{IsWritten}
 pub use Rattle.rex_world.specs.declared.told.Told.{Told}
 pub use Rattle.rex_world.specs.declared.world.World.{World}

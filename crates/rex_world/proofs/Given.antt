@@ -1,33 +1,17 @@
 -- An event that a node is handed.
-use Rattle.rex_world.proofs.Common.{◌≡◌, ℕ, ◌-◌, ◌≤◌, Bool, true, false, List, [], length, Result, Ok, Err, Option, Some, None, IfOk, OnErr, OnOk, refl, sym, ap, subst, ◌∙◌, append-nil, slice_index_or, slice_set, if◌then◌else◌, Vec, All-nil, most_nodes, Declarations, Event, IsNode, RequestFits, KeeperValue, Lead, Role, is_active, role_name, Follower, Leads, begin, Value, Here, active_only, ModelWorld, after, if_up, node_at, put, BeginsInRange, take_event, agreed, IsKept, take_kept, Refusal, NodeValue, here_of, LeadsTo, Refuses, refusal_active, World, Member, AreMembers, StaysMember, armed_of, here_at, records_of, nodes_of, world_of, IsRunning, IsSame}
+use Rattle.rex_world.proofs.Common.{◌≡◌, ℕ, ◌-◌, ◌≤◌, Bool, true, false, [], length, Result, Ok, Err, Option, Some, None, IfOk, OnErr, OnOk, refl, sym, ap, subst, ◌∙◌, append-nil, slice_index_or, slice_set, if◌then◌else◌, Vec, All-nil, most_nodes, Declarations, Event, IsNode, RequestFits, Lead, Role, is_active, role_name, Follower, Leads, begin, Value, Here, active_only, ModelWorld, after, if_up, node_at, put, BeginsInRange, take_event, agreed, IsKept, take_kept, Refusal, Refuses, refusal_active, World, Member, AreMembers, StaysMember, here_at, nodes_of, world_of, IsRunning, IsSame}
+use Rattle.std.proofs.lemmas.Result.{on_err_weaker}
 use Rattle.rex_record.specs.declared.turns.Turn.{Turn}
 use Rattle.rex_cluster.specs.Takes.{take, taken, taken_in}
 use Rattle.rex_safety.specs.Doings.{TakesAreKept}
 use Rattle.rex_node.specs.declared.refusal.Refusal.TheVariants as why
 use Rattle.rex_node.specs.Calls as calls
 use Rattle.rex_node.specs.Calls.{if_active}
-use Rattle.rex_world.specs.Taking.{IsHanded}
+use Rattle.rex_world.specs.Calls.{IsWhole}
+use Rattle.rex_world.specs.Taking.{IsHanded, WasHanded}
 use Rattle.rex_world.proofs.Agreeing.{same_longest}
 use Rattle.rex_world.proofs.Coming.{same_world, put_same}
 use Rattle.rex_world.proofs.Placed.{all_stay, at_old, many_are, now_put}
-
--- ---- the node
-
-module _ (service : Declarations) (past : List Value) (x y : NodeValue KeeperValue) (e : Event) (keeper : y.keeper ≡ x.keeper) where
-  armed_same : armed_of y.keeper.armed ≡ armed_of x.keeper.armed
-  armed_same = ap (λ k. armed_of k.armed) keeper
-
-  leads : (t : Turn) → LeadsTo (taken t) (here_of records_of service past x) (here_of records_of service past y) → LeadsTo (taken t) (here_at service past x) (here_at service past y)
-  leads t h =
-      ap (λ n. let m : Here = record n { armed = armed_of y.keeper.armed } in m) h
-      ∙ ap (λ a. let m : Here = record (taken t (begin (here_of records_of service past x))).node { armed = a } in m) armed_same
-
-  pub handed : (outcome : Result Turn Refusal) → Refuses (refusal_active (here_of records_of service past x)) outcome → IfOk outcome (λ (t : Turn). t ≡ taken_in service (here_of records_of service past x) e)
-      → IfOk outcome (λ (t : Turn). LeadsTo (taken t) (here_of records_of service past x) (here_of records_of service past y)) → OnErr outcome (y ≡ x) → IsHanded service e (here_at service past x) (here_at service past y) outcome
-  handed (Ok t) refused told takes same = record { refused = refused; told = told; takes = leads t takes; same = tt }
-  handed (Err r) refused told takes same = record { refused = refused; told = tt; takes = tt; same = ap (here_at service past) same }
-
--- ---- the world
 
 takes_kept : TakesAreKept
 takes_kept service seed n w m e few good checked there begins k = take_kept service good checked [] (All-nil (RequestFits service)) seed n few w k m there e begins
@@ -88,7 +72,7 @@ module _ {S : Type 0} {service : Declarations} {w : World S} (h : IsRunning serv
   many : length nodes.items ≡ nodes_of w
   many = many_are _ there new old_is nodes_are
 
-  pub given_same : {broken : Bool} → IsSame w (later broken)
+  given_same : {broken : Bool} → IsSame w (later broken)
   given_same = record { nodes = many; requests = refl; seed = refl }
 
   -- only this node is another one
@@ -123,15 +107,24 @@ module _ {S : Type 0} {service : Declarations} {w : World S} (h : IsRunning serv
         clients = h.clients;
       }
 
+  -- however the node answered, the world is left so
+  pub given_left : {A : Type 0} (outcome : Result A Refusal) {broken : Bool} → Refuses (refusal_active (here_at service w.agreed old)) outcome → OnErr outcome (here_at service w.agreed new ≡ here_at service w.agreed old)
+      → (IsWhole outcome → broken ≡ w.broken) → (outcome ≡ Err why.OutOfMemory → broken ≡ true) → IsRunning service (later w.broken) → WasHanded service w (later broken) m outcome
+  given_left outcome {broken} refused still whole short running = record {
+    refused = subst (λ x. Refuses (refusal_active x) outcome) (sym was) refused;
+    unchanged = on_err_weaker outcome (given_still broken) still;
+    running = λ h. subst (λ b. IsRunning service (later b)) (sym (whole h)) running;
+    same = given_same;
+    done = refl;
+    broken = short;
+  }
+
   module _ (e : Event) where
     abbrev Handed : Result Turn Refusal → Type 0
     Handed outcome = IsHanded service e (here_at service w.agreed old) (here_at service w.agreed new) outcome
 
     handed_was : {outcome : Result Turn Refusal} → Handed outcome → IsHanded service e (node_at before.nodes m) (here_at service w.agreed new) outcome
     handed_was {outcome} a = subst (λ x. IsHanded service e x (here_at service w.agreed new) outcome) (sym was) a
-
-    pub given_refused : {outcome : Result Turn Refusal} → Handed outcome → Refuses (refusal_active (node_at before.nodes m)) outcome
-    given_refused {outcome} a = (handed_was a).refused
 
     pub given_told : {outcome : Result Turn Refusal} → Handed outcome → IfOk outcome (λ (t : Turn). t ≡ taken_in service (node_at before.nodes m) e)
     given_told {outcome} a = (handed_was a).told
@@ -144,7 +137,7 @@ module _ {S : Type 0} {service : Declarations} {w : World S} (h : IsRunning serv
         given_put broken (b.takes ∙ ap (λ u. (taken u (begin (node_at before.nodes m))).node) b.told)
         ∙ take_is service before m e n.0 n.1
 
-    pub given_unchanged : (broken : Bool) (outcome : Result Turn Refusal) → Handed outcome → OnErr outcome (world_of service (later broken) ≡ before)
+    given_unchanged : (broken : Bool) (outcome : Result Turn Refusal) → Handed outcome → OnErr outcome (world_of service (later broken) ≡ before)
     given_unchanged broken (Ok t) a = tt
     given_unchanged broken (Err r) a = given_still broken a.same
 

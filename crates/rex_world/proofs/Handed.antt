@@ -1,5 +1,5 @@
 -- What handing over a message does to a world.
-use Rattle.rex_world.proofs.Common.{◌≡◌, ℕ, zero, suc, ◌-◌, ◌<◌, ◌≤◌, Bool, true, Option, Some, None, List, [], ◌∷◌, ◌++◌, length, take, drop, refl, sym, ◌∙◌, ap, subst, arith, append_assoc, length-set, ◌&&◌, slice_get, slice_set, All, list_all, All-get_or, drop-length, and_parts, slice_get_within, get_or_from_slice_get, Declarations, Effect, Delivered, Said, spelling_of, message_read, IsNode, Message, kind_of, Value, service_of, Row, node_at, logs, at_node, only, deliver_found, sent_from, with_handed, roles, begin, receive, Begins, IsIn, known, MessageFits, RunsOn, message_in, content_in, IsTold, Told, World, disarmed, heres, TellsIn, TellsRightly, read_message, message_of, messages_of, world_of, nodes_of, IsRunning, ComesTo, step_in, IsSent}
+use Rattle.rex_world.proofs.Common.{◌≡◌, ℕ, zero, suc, ◌-◌, ◌<◌, ◌≤◌, Bool, true, Option, Some, None, List, [], ◌∷◌, ◌++◌, length, take, drop, refl, sym, ◌∙◌, ap, subst, arith, append_assoc, length-set, ◌&&◌, slice_get, slice_set, All, list_all, All-get_or, drop-length, and_parts, slice_get_within, get_or_from_slice_get, Declarations, Effect, Delivered, Said, spelling_of, message_read, IsNode, Message, kind_of, Value, service_of, Row, logs, at_node, only, deliver_found, sent_from, with_handed, roles, begin, receive, Begins, IsIn, known, MessageFits, RunsOn, message_in, content_in, IsTold, Told, World, disarmed, TellsIn, TellsRightly, read_message, message_of, messages_of, world_of, nodes_of, IsRunning, ComesTo, step_in, IsSent, node_in}
 use Rattle.std.proofs.lemmas.List.{append-nil}
 use Rattle.rex_report.specs.declared.effect.Effect.TheVariants.{NoMessage}
 use Rattle.rex_net.specs.Net as net
@@ -105,10 +105,10 @@ module _ {S : Type 0} (service : Declarations) (w : World S) (h : IsRunning serv
   pub hand_told : IsTold service w.agreed m.content
   hand_told = sent_told number h.told sent
 
-  pub hand_front : Begins (known (node_at (heres service w.agreed w.nodes.items) m.to).log) w.agreed
+  pub hand_front : Begins (known (node_in service w m.to).log) w.agreed
   hand_front = front_known h fits.to
 
-  pub hand_runs : RunsOn service (receive (nodes_of w) (service_of service w.seed) m.to m.from (content_in w.agreed m.content)) (begin (disarmed (node_at (heres service w.agreed w.nodes.items) m.to)))
+  pub hand_runs : RunsOn service (receive (nodes_of w) (service_of service w.seed) m.to m.from (content_in w.agreed m.content)) (begin (disarmed (node_in service w m.to)))
   hand_runs =
       runs_after h fits.to
       (λ d good. receive_good _ _ (logs (world_of service w)) (roles (world_of service w)) (messages_of w.agreed w.net) m.to fits.to m.from _ d good (good.old (message_in w.agreed m) is_there))
@@ -144,14 +144,15 @@ module _ {S : Type 0} (service : Declarations) (w : World S) (h : IsRunning serv
             sent = c.did.sent ∙ ap (λ es. es ++ sent_from (suc (length (messages_of w1.agreed w1.net))) (drop (length (messages_of w1.agreed w1.net)) (hand_row w1).world.messages)) sent-same
                 ∙ ap (λ v. told.sent.items ++ sent_from (suc (length (messages_of v.agreed v.net))) (drop (length (messages_of v.agreed v.net)) (hand_row w1).world.messages)) marked.rest;
           };
-          running = c.running;
-          same = record {
-            nodes = c.same.nodes ∙ ap nodes_of marked.rest;
-            requests = c.same.requests ∙ ap (λ v. v.requests) marked.rest;
-            seed = c.same.seed ∙ ap (λ v. v.seed) marked.rest;
+          goes = record {
+            running = c.goes.running;
+            same = record {
+              nodes = c.goes.same.nodes ∙ ap nodes_of marked.rest;
+              requests = c.goes.same.requests ∙ ap (λ v. v.requests) marked.rest;
+              seed = c.goes.same.seed ∙ ap (λ v. v.seed) marked.rest;
+            };
+            done = c.goes.done ∙ ap (λ v. v.done) marked.rest;
           };
-          done = c.done ∙ ap (λ v. v.done) marked.rest;
-          flushed = c.flushed ∙ ap (λ v. v.flushed) marked.rest;
         })
 
 -- where there is no message of the number
@@ -166,10 +167,7 @@ missed {service} {w} {told} {told2} number h none effects sent =
         effects = effects;
         sent = sent ∙ sym (append-nil told.sent.items) ∙ ap (λ ms. told.sent.items ++ sent_from (suc (length (messages_of w.agreed w.net))) ms) (sym (drop-length (messages_of w.agreed w.net)));
       };
-      running = h;
-      same = record { nodes = refl; requests = refl; seed = refl };
-      done = refl;
-      flushed = refl;
+      goes = record { running = h; same = record { nodes = refl; requests = refl; seed = refl }; done = refl };
     })
 
 -- the message stays under its number

@@ -1,5 +1,5 @@
 -- The node at a place of a world.
-use Rattle.rex_world.proofs.Common.{◌≡◌, ℕ, zero, suc, ◌+◌, ◌-◌, ◌<◌, ◌≤◌, List, [], ◌∷◌, length, get_or, refl, sym, ◌∙◌, ap, subst, arith, length-set, slice_index_or, slice_set, Declarations, IsNode, Begins, Here, AreRead, log_of, Value, node_at, put, Member, AreKept, AreMembers, AreWithin, IsMember, StaysMember, faults_of, here_at, heres, records_at, records_of}
+use Rattle.rex_world.proofs.Common.{◌≡◌, ℕ, zero, suc, ◌+◌, ◌-◌, ◌<◌, ◌≤◌, List, [], ◌∷◌, length, get_or, refl, sym, ◌∙◌, ap, subst, arith, length-set, slice_index_or, slice_set, Declarations, IsNode, Begins, Here, AreRead, log_of, Value, node_at, put, Member, AreKept, AreMembers, AreWithin, IsMember, StaysMember, faults_of, here_at, heres, records_at, records_of, IsOwnMember}
 use Rattle.std.proofs.Common.{◌≢◌}
 use Rattle.std.proofs.lemmas.Bool.{ne_eqb}
 use Rattle.rex_world.specs.Members.{all_records}
@@ -140,7 +140,7 @@ module _ (xs : List Member) {number : ℕ} (there : IsNode (length xs) number) w
       pub here_so : node_at (heres service past xs) number ≡ here_at service past x
       here_so = here_is x ∙ ap (here_at service past) (sym x_is)
 
-      pub member_so : (seed nodes : ℕ) → AreMembers service past seed nodes 1 xs → IsMember service past x.seed x.nodes x.id x
+      pub member_so : (seed nodes : ℕ) → AreMembers service past seed nodes 1 xs → IsOwnMember service past x
       member_so seed nodes all =
           let m : IsMember service past seed nodes number x = subst (IsMember service past seed nodes number) (sym x_is) (member_is x all) in
           record { id = refl; nodes_are = refl; seed_is = refl; node = m.node; keeping = m.keeping; whole = m.whole }

@@ -1,25 +1,20 @@
 -- The releases of a schedule, line by line.
-use Rattle.rex_world.proofs.Common.{◌≡◌, List, [], ◌∷◌, ◌++◌, sym, ap, subst, ◌∙◌, append-nil, append_assoc, filter, Declarations, Effect, Scenario, ScheduleLine, row, World, IsOf, is_release, releases_from, nodes_of, world_of}
+use Rattle.rex_world.proofs.Common.{◌≡◌, List, [], ◌∷◌, ◌++◌, sym, ap, ◌∙◌, append-nil, append_assoc, filter, Declarations, Effect, Scenario, ScheduleLine, World, IsOf, is_release, releases_from, nodes_of, row_in, world_of}
 use Rattle.std.proofs.lemmas.List.Elements.{filter-append}
 use Rattle.rex_cluster.specs.World.{effects_of}
-use Rattle.rex_world.proofs.Runs.{next_of}
+use Rattle.rex_world.proofs.Runs.{as_of, next_of}
 
 -- what the next line reports
 abbrev pub told_of : {S : Type 0} → Declarations → World S → ScheduleLine → List Effect
-told_of service w line = (row service w.requests w.seed (nodes_of w) (world_of service w) line).effects
+told_of service w line = (row_in service w line).effects
 
 -- the releases of the next line come first, and then those of the other lines
 releases_next : {S : Type 0} → (service : Declarations) {s : Scenario} {w : World S} {line : ScheduleLine} {rest left : List ScheduleLine} → IsOf s w → left ≡ line ∷ rest
     → releases_from service s (world_of service w) left ≡ filter is_release (told_of service w line) ++ releases_from service s (next_of service w line) rest
-releases_next service {s} {w} {line} {rest} {left} of l =
-    subst (λ n. filter is_release (effects_of service s.requests s.seed n (world_of service w) left) ≡ first ++ filter is_release (effects_of service s.requests s.seed n (next_of service w line) rest)) of.nodes
-    (subst (λ seed. filter is_release (effects_of service s.requests seed (nodes_of w) (world_of service w) left) ≡ first ++ filter is_release (effects_of service s.requests seed (nodes_of w) (next_of service w line) rest)) of.seed
-    (subst (λ requests. filter is_release (effects_of service requests w.seed (nodes_of w) (world_of service w) left) ≡ first ++ filter is_release (effects_of service requests w.seed (nodes_of w) (next_of service w line) rest)) of.requests
+releases_next service {w} {line} {rest} {left} of l =
+    as_of (λ rs seed n. filter is_release (effects_of service rs seed n (world_of service w) left) ≡ filter is_release (told_of service w line) ++ filter is_release (effects_of service rs seed n (next_of service w line) rest)) of
     (ap (λ ls. filter is_release (effects_of service w.requests w.seed (nodes_of w) (world_of service w) ls)) l
-    ∙ filter-append is_release (told_of service w line) (effects_of service w.requests w.seed (nodes_of w) (next_of service w line) rest))))
-  where
-    first : List Effect
-    first = filter is_release (told_of service w line)
+    ∙ filter-append is_release (told_of service w line) (effects_of service w.requests w.seed (nodes_of w) (next_of service w line) rest))
 
 -- with the releases of one line more
 pub releases_more : {S : Type 0} → (service : Declarations) {s : Scenario} {w : World S} (after : World S) {line : ScheduleLine} {rest left : List ScheduleLine} (had : List Effect) {now told whole : List Effect} → IsOf s w → left ≡ line ∷ rest

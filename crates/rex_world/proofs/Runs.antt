@@ -1,5 +1,5 @@
 -- The report of a schedule, line by line.
-use Rattle.rex_world.proofs.Common.{◌≡◌, ℕ, zero, suc, ◌≤◌, ◌+◌, ◌<◌, List, [], ◌∷◌, ◌++◌, length, get_or, drop, refl, sym, ap, subst, ◌∙◌, arith, Declarations, Scenario, ScheduleLine, ModelWorld, row, World, IsOf, IsSame, effects_text, report_from, nodes_of, world_of}
+use Rattle.rex_world.proofs.Common.{◌≡◌, ℕ, zero, suc, ◌≤◌, ◌+◌, ◌<◌, List, [], ◌∷◌, ◌++◌, length, get_or, drop, refl, sym, ap, subst, ◌∙◌, arith, Declarations, Request, Scenario, ScheduleLine, ModelWorld, World, IsOf, IsSame, effects_text, report_from, nodes_of, row_in, world_of}
 use Rattle.std.proofs.Common.{drop-cons}
 
 -- the items from a place on
@@ -23,20 +23,20 @@ drop_end {X} {same} {i} e le = subst (λ ys. drop i ys ≡ []) e (past same i le
 
 -- the world that a schedule line makes of a world
 abbrev pub next_of : {S : Type 0} → Declarations → World S → ScheduleLine → ModelWorld
-next_of service w line = (row service w.requests w.seed (nodes_of w) (world_of service w) line).world
+next_of service w line = (row_in service w line).world
+
+-- what holds with the requests, the seed and the nodes of a world holds with those of its scenario
+pub as_of : {S : Type 0} → {s : Scenario} {w : World S} (P : List Request → ℕ → ℕ → Type 0) → IsOf s w → P w.requests w.seed (nodes_of w) → P s.requests s.seed s.nodes
+as_of {s} {w} P of h =
+    subst (P s.requests s.seed) of.nodes (subst (λ seed. P s.requests seed (nodes_of w)) of.seed (subst (λ rs. P rs w.seed (nodes_of w)) of.requests h))
 
 -- the report goes on with the lines of the next schedule line
 pub report_next : {S : Type 0} → (service : Declarations) {s : Scenario} {w : World S} {line : ScheduleLine} {rest left : List ScheduleLine} → IsOf s w → left ≡ line ∷ rest
     → report_from service s.requests s.seed s.nodes (world_of service w) left
-    ≡ effects_text service (w.done + 1) (row service w.requests w.seed (nodes_of w) (world_of service w) line).effects ++ report_from service s.requests s.seed s.nodes (next_of service w line) rest
-report_next service {s} {w} {line} {rest} {left} of l =
-    subst (λ n. report_from service s.requests s.seed n (world_of service w) left ≡ text ++ report_from service s.requests s.seed n (next_of service w line) rest) of.nodes
-    (subst (λ seed. report_from service s.requests seed (nodes_of w) (world_of service w) left ≡ text ++ report_from service s.requests seed (nodes_of w) (next_of service w line) rest) of.seed
-    (subst (λ requests. report_from service requests w.seed (nodes_of w) (world_of service w) left ≡ text ++ report_from service requests w.seed (nodes_of w) (next_of service w line) rest) of.requests
-    (ap (report_from service w.requests w.seed (nodes_of w) (world_of service w)) l)))
-  where
-    text : List ℕ
-    text = effects_text service (w.done + 1) (row service w.requests w.seed (nodes_of w) (world_of service w) line).effects
+    ≡ effects_text service (w.done + 1) (row_in service w line).effects ++ report_from service s.requests s.seed s.nodes (next_of service w line) rest
+report_next service {w} {line} {rest} {left} of l =
+    as_of (λ rs seed n. report_from service rs seed n (world_of service w) left ≡ effects_text service (w.done + 1) (row_in service w line).effects ++ report_from service rs seed n (next_of service w line) rest) of
+    (ap (report_from service w.requests w.seed (nodes_of w) (world_of service w)) l)
 
 -- the same requests, seed and nodes after a line
 pub still_of : {S : Type 0} → {s : Scenario} {w after : World S} → IsOf s w → IsSame w after → IsOf s after

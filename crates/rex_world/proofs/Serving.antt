@@ -1,5 +1,5 @@
 -- What the nodes of a running world may be asked, and what comes of it.
-use Rattle.rex_world.proofs.Common.{◌≡◌, ℕ, ◌+◌, ◌-◌, ◌^◌, ◌<◌, ◌≤◌, ℤ, inl, inr, Option, Some, None, Bool, true, false, List, [], ◌∷◌, length, refl, sym, ◌∙◌, ap, subst, arith, length-set, length-append, slice_index_or, slice_set, replicate, if◌then◌else◌, Vec, All, option_copied, All-nil, All-cons, most_nodes, Declarations, Request, Said, IsNode, RequestFits, StateValue, Effect, IsAmong, Failure, Service, IsIn, begin, receive, say, start, stop, Value, service_of, Here, CallHere, cut, submit_request, ModelWorld, after, at_node, deliver_found, if_up, node_at, with_handed, IsKept, step_kept, content_in, Step, AreLimits, counts_for, StaysNode, here_of, AreTold, IsTold, Serves, if_active, Told, World, IsSent, Member, AreKept, AreMembers, IsMember, StaysMember, disarmed, here_at, heres, records_at, records_of, nodes_of, world_of, IsRunning, AreReleased, ComesTo, HasCome, IsSettled, Starts, call_at, served, started}
+use Rattle.rex_world.proofs.Common.{◌≡◌, ℕ, ◌+◌, ◌-◌, ◌^◌, ◌<◌, ◌≤◌, ℤ, inl, inr, Option, Some, None, Bool, true, false, List, [], ◌∷◌, length, refl, sym, ◌∙◌, ap, subst, arith, length-set, length-append, slice_index_or, slice_set, replicate, if◌then◌else◌, Vec, All, option_copied, All-nil, All-cons, most_nodes, Declarations, Request, Said, IsNode, RequestFits, StateValue, Effect, IsAmong, Failure, Service, IsIn, begin, receive, say, start, stop, Value, service_of, Here, CallHere, cut, submit_request, ModelWorld, after, at_node, deliver_found, if_up, node_at, with_handed, IsKept, step_kept, content_in, Step, AreLimits, counts_for, StaysNode, here_of, AreTold, IsTold, Serves, if_active, Told, World, IsSent, Member, AreKept, AreMembers, IsMember, StaysMember, disarmed, here_at, heres, records_at, records_of, nodes_of, world_of, IsRunning, AreReleased, ComesTo, HasCome, IsSettled, Starts, call_at, served, started, Row, StaysOwnMember, IsOwnMember}
 use Rattle.std.proofs.Common.{pos}
 use Rattle.rex_msg.specs.Spelling.{IsMessage}
 use Rattle.rex_schedule.specs.declared.scenario.ScheduleLine.TheVariants as line
@@ -10,7 +10,7 @@ use Rattle.rex_node.specs.Calls.{turn_at}
 use Rattle.rex_steps.specs.declared.serving.Call.{Call}
 use Rattle.rex_steps.specs.declared.serving.Call.TheVariants.{Elect, Receive, Submit, Lane, Cut, Replay, Ask, Checkpoint, DropKnown}
 use Rattle.rex_steps.specs.Serving.{MayReceive, MayServe, call_for}
-use Rattle.rex_world.specs.Calls.{CanBeTold, CanCall}
+use Rattle.rex_world.specs.Calls.{CanBeTold, CanCall, ComesQuietly}
 use Rattle.rex_world.proofs.Acted.{by_number, by_own, has_come, serves_stays, unnamed}
 use Rattle.rex_world.proofs.Coming.{comes_after, served_row, started_row}
 use Rattle.rex_world.proofs.Failing.{follows}
@@ -22,9 +22,10 @@ use Rattle.rex_world.proofs.Shown.{ask_releases, checkpoint_releases, cut_releas
 use Rattle.rex_world.proofs.Stepping.{elect_runs, front_known, kept_next, starts_from}
 use Rattle.rex_cluster.proofs.Unseen.{Goes, active_either, ask_either, checkpoint_either, cut_either, drop_either, elect_either, receive_either, replay_either}
 use Rattle.rex_world.proofs.Working.{can_be_cut, room}
+use Rattle.rex_cluster.specs.World.{start_if}
 
 -- a step that sends nothing tells no state
-pub none_told : (service : Declarations) (past : List Value) {sends : List Said} → sends ≡ [] → AreTold service past sends
+none_told : (service : Declarations) (past : List Value) {sends : List Said} → sends ≡ [] → AreTold service past sends
 none_told service past e = subst (AreTold service past) (sym e) (All-nil (λ m. IsTold service past m.content))
 
 -- ---- a message that is handed over, without its flag
@@ -180,39 +181,51 @@ module _ {S : Type 0} (service : Declarations) (w : World S) (h : IsRunning serv
 
     -- ---- a node that came to something
 
-    module _ (old new : Member) (old_is : old ≡ slice_index_or w.nodes.items (m - 1) old) (nodes : Vec Member) (nodes_are : nodes.items ≡ slice_set w.nodes.items (m - 1) new) (d : CallHere) (step : Step) (come : HasCome w.agreed d (here_at service w.agreed new) step)
-        (stays : StaysMember service w.agreed w.seed (nodes_of w) m old new) (told_right : AreTold service w.agreed step.sends) (kept : Kept (after model m d).world) (released : AreReleased d.node d.effects) where
+    -- a node has come to this of the model, in this row, and stays; it tells what is right, the model's world is kept, and replies are released by a node that is up and active
+    pub record IsThrough (old new : Member) (d : CallHere) (r : Row) (step : Step) : Type 0 where
+      pub come : HasCome w.agreed d (here_at service w.agreed new) step
+      pub row : after model m d ≡ r
+      pub stays : StaysMember service w.agreed w.seed (nodes_of w) m old new
+      pub told : AreTold service w.agreed step.sends
+      pub kept : Kept (after model m d).world
+      pub released : AreReleased d.node d.effects
+
+    module _ {old new : Member} (old_is : old ≡ slice_index_or w.nodes.items (m - 1) old) (nodes : Vec Member) (nodes_are : nodes.items ≡ slice_set w.nodes.items (m - 1) new) {d : CallHere} {r : Row} {step : Step} (c : IsThrough old new d r step) where
       many : length nodes.items ≡ nodes_of w
       many = many_are _ there new old_is nodes_are
 
       came_at : HasCome w.agreed d (node_at (heres service w.agreed nodes.items) m) step
-      came_at = subst (λ y. HasCome w.agreed d y step) (sym (at_new _ there new old_is nodes_are service w.agreed)) come
+      came_at = subst (λ y. HasCome w.agreed d y step) (sym (at_new _ there new old_is nodes_are service w.agreed)) c.come
 
       all_kept : AreKept service w.agreed w.seed (nodes_of w) w.done nodes.items
-      all_kept = all_stay _ there new old_is nodes_are service w.agreed w.seed _ stays (record { members = h.members; within = h.within })
+      all_kept = all_stay _ there new old_is nodes_are service w.agreed w.seed _ c.stays (record { members = h.members; within = h.within })
 
       -- the messages of the step have their numbers in their ranges
       sends_fit : All IsMessage step.sends
       sends_fit =
-          all_fit h.few kept.numbers (kept_right service w.seed _ _ h.service_is h.checked kept).short w.agreed _ told_right
-          (λ y i. is_behind _ d.sends y (subst (IsIn y) come.sends i))
+          all_fit h.few c.kept.numbers (kept_right service w.seed _ _ h.service_is h.checked c.kept).short w.agreed _ c.told
+          (λ y i. is_behind _ d.sends y (subst (IsIn y) c.come.sends i))
 
       -- so it can be told
       pub can_be_told : CanBeTold service (record w { nodes = nodes }) m step
       can_be_told = record {
         sends = sends_fit;
-        releases = subst (λ y. AreReleased y step.effects) (sym came_at.node) (subst (AreReleased d.node) (sym come.effects) released);
         few = subst (λ k. k ≤ most_nodes) (sym many) h.few;
-        members = subst (λ k. AreMembers service w.agreed w.seed k 1 nodes.items) (sym many) all_kept.members;
-        clients = h.clients;
+        shows = record {
+          there = subst (λ k. IsNode k m) (sym many) there;
+          members = subst (λ k. AreMembers service w.agreed w.seed k 1 nodes.items) (sym many) all_kept.members;
+          clients = h.clients;
+          releases = subst (λ y. AreReleased y step.effects) (sym came_at.node) (subst (AreReleased d.node) (sym c.come.effects) c.released);
+        };
       }
 
       -- and once that is done the world has come to the model's row
-      pub came : {count : ℕ} → count ≡ length (records_at w.nodes.items m) → {w2 : World S} {told told2 : Told} → IsSettled service m count (record w { nodes = nodes }) w2 told told2 step → ComesTo service w w2 told told2 (after model m d)
-      came {count} count_is {w2} {told} {told2} t =
-          settled h there count_is t
-          (comes_after h (tells_step h there count_is t) m came_at t.seen (others_are _ there new old_is nodes_are service w.agreed) many all_kept told_right kept)
-          (others_are _ there new old_is nodes_are service w.agreed) many (records_grown _ there new old_is nodes_are stays.grown)
+      pub came : {count : ℕ} → count ≡ length (records_at w.nodes.items m) → {w2 : World S} {told told2 : Told} → IsSettled service m count (record w { nodes = nodes }) w2 told told2 step → ComesTo service w w2 told told2 r
+      came count_is {w2} {told} {told2} t =
+          subst (ComesTo service w w2 told told2) c.row
+          (settled h there count_is t
+          (comes_after h (tells_step h there count_is t) m came_at t.seen (others_are _ there new old_is nodes_are service w.agreed) many all_kept c.told c.kept)
+          (others_are _ there new old_is nodes_are service w.agreed) many (records_grown _ there new old_is nodes_are c.stays.grown))
 
     -- ---- the node of the number
 
@@ -243,7 +256,7 @@ module _ {S : Type 0} (service : Declarations) (w : World S) (h : IsRunning serv
       pub member_old : IsMember service w.agreed w.seed (nodes_of w) m old
       member_old = subst (IsMember service w.agreed w.seed (nodes_of w) m) (sym old_is) (member_is _ there service w.agreed old h.members)
 
-      pub own_old : IsMember service w.agreed old.seed old.nodes old.id old
+      pub own_old : IsOwnMember service w.agreed old
       own_old = by_own member_old
 
       pub room_old : old.keeper.faults < 2 ^ 64 - 1
@@ -276,50 +289,51 @@ module _ {S : Type 0} (service : Declarations) (w : World S) (h : IsRunning serv
         goes_so = subst (λ k. (f : Option Failure) → Goes f k) (sym same_call) (lawful call may).goes
 
         module _ {new : Member} {step : Step} (serves : Serves records_of follows (λ k. k.faults) service w.agreed (call_for service w.agreed old.seed old.nodes old.id (here_of records_of service w.agreed old) call) old new step) where
-          pub call_come : HasCome w.agreed (served m (call_at service w m call) x) (here_at service w.agreed new) step
-          call_come =
-              subst (λ y. HasCome w.agreed (served m (call_at service w m call) y) (here_at service w.agreed new) step) (sym here_old)
-              (subst (λ k. HasCome w.agreed (served k (call_at service w m call) (here_at service w.agreed old)) (here_at service w.agreed new) step) member_old.id
-              (subst (λ c. HasCome w.agreed (served old.id c (here_at service w.agreed old)) (here_at service w.agreed new) step) same_call
-              (has_come service w.agreed old new _ step goes_so serves)))
-
-          pub call_stays : StaysNode records_of service w.agreed old new → StaysMember service w.agreed w.seed (nodes_of w) m old new
-          call_stays stays = serves_stays member_old new _ step goes_so stays serves
-
-        pub call_kept : Kept (after model m (served m (call_at service w m call) x)).world
-        call_kept = subst (λ r. Kept r.world) (sym (served_row model m (call_at service w m call))) (lawful call may).kept
-
-        pub call_released : AreReleased (served m (call_at service w m call) x).node (served m (call_at service w m call) x).effects
-        call_released = served_released (call_at service w m call) (lawful call may).releases
+          pub call_through : StaysNode records_of service w.agreed old new → IsThrough old new comes_to (at_node model m (call_at service w m call)) step
+          call_through stays = record {
+            row = served_row model m (call_at service w m call);
+            come =
+                subst (λ y. HasCome w.agreed (served m (call_at service w m call) y) (here_at service w.agreed new) step) (sym here_old)
+                (subst (λ k. HasCome w.agreed (served k (call_at service w m call) (here_at service w.agreed old)) (here_at service w.agreed new) step) member_old.id
+                (subst (λ c. HasCome w.agreed (served old.id c (here_at service w.agreed old)) (here_at service w.agreed new) step) same_call
+                (has_come service w.agreed old new _ step goes_so serves)));
+            stays = serves_stays member_old new _ step goes_so stays serves;
+            told = serves.tells;
+            kept = subst (λ r. Kept r.world) (sym (served_row model m (call_at service w m call))) (lawful call may).kept;
+            released = served_released (call_at service w m call) (lawful call may).releases;
+          }
 
       -- ---- a stop, and a start
 
-      module _ (new : Member) (step : Step) where
-        pub stop_come : HasCome w.agreed (served old.id (stop old.id) (here_at service w.agreed old)) (here_at service w.agreed new) step → HasCome w.agreed (served m (stop m) x) (here_at service w.agreed new) step
-        stop_come come =
-            subst (λ y. HasCome w.agreed (served m (stop m) y) (here_at service w.agreed new) step) (sym here_old)
-            (subst (λ k. HasCome w.agreed (served k (stop k) (here_at service w.agreed old)) (here_at service w.agreed new) step) member_old.id come)
+      module _ {new : Member} {step : Step} where
+        pub stop_through : ComesQuietly service w.agreed (served old.id (stop old.id)) old new step → IsThrough old new (served m (stop m) x) (at_node model m (stop m)) step
+        stop_through c = record {
+          row = served_row model m (stop m);
+          come =
+              subst (λ y. HasCome w.agreed (served m (stop m) y) (here_at service w.agreed new) step) (sym here_old)
+              (subst (λ k. HasCome w.agreed (served k (stop k) (here_at service w.agreed old)) (here_at service w.agreed new) step) member_old.id c.came);
+          stays = by_number member_old new c.stays;
+          told = none_told service w.agreed c.quiet;
+          kept = subst (λ r. Kept r.world) (sym (served_row model m (stop m))) (kept_next h (line.Stop m) there);
+          released = served_released (stop m) (stop_releases h.service_is h.checked w.seed (nodes_of w) m);
+        }
 
-        pub start_come : HasCome w.agreed (started (service_of service old.seed) old.id (here_at service w.agreed old)) (here_at service w.agreed new) step → HasCome w.agreed (started sv m x) (here_at service w.agreed new) step
-        start_come come =
-            subst (λ y. HasCome w.agreed (started sv m y) (here_at service w.agreed new) step) (sym here_old)
-            (subst (λ k. HasCome w.agreed (started sv k (here_at service w.agreed old)) (here_at service w.agreed new) step) member_old.id
-            (subst (λ s. HasCome w.agreed (started (service_of service s) old.id (here_at service w.agreed old)) (here_at service w.agreed new) step) member_old.seed_is come))
+        pub start_through : ComesQuietly service w.agreed (started (service_of service old.seed) old.id) old new step → IsThrough old new (started sv m x) (start_if sv x.up model m) step
+        start_through c = record {
+          row = started_row sv model m;
+          come =
+              subst (λ y. HasCome w.agreed (started sv m y) (here_at service w.agreed new) step) (sym here_old)
+              (subst (λ k. HasCome w.agreed (started sv k (here_at service w.agreed old)) (here_at service w.agreed new) step) member_old.id
+              (subst (λ s. HasCome w.agreed (started (service_of service s) old.id (here_at service w.agreed old)) (here_at service w.agreed new) step) member_old.seed_is c.came));
+          stays = by_number member_old new c.stays;
+          told = none_told service w.agreed c.quiet;
+          kept = subst (λ r. Kept r.world) (sym (started_row sv model m)) (kept_next h (line.Start m) there);
+          released = started_released;
+        }
 
-      pub still_own : {new : Member} → StaysMember service w.agreed old.seed old.nodes old.id old new → StaysMember service w.agreed w.seed (nodes_of w) m old new
+      pub still_own : {new : Member} → StaysOwnMember service w.agreed old new → StaysMember service w.agreed w.seed (nodes_of w) m old new
       still_own {new} stays = by_number member_old new stays
 
       pub starts_old : Starts service w.agreed (here_at service w.agreed old)
       starts_old = subst (Starts service w.agreed) here_old (starts_from h there)
 
-    pub stop_kept : Kept (after model m (served m (stop m) x)).world
-    stop_kept = subst (λ r. Kept r.world) (sym (served_row model m (stop m))) (kept_next h (line.Stop m) there)
-
-    pub stop_released : AreReleased (served m (stop m) x).node (served m (stop m) x).effects
-    stop_released = served_released (stop m) (stop_releases h.service_is h.checked w.seed (nodes_of w) m)
-
-    pub start_kept : Kept (after model m (started sv m x)).world
-    start_kept = subst (λ r. Kept r.world) (sym (started_row sv model m)) (kept_next h (line.Start m) there)
-
-    pub start_released : AreReleased (started sv m x).node (started sv m x).effects
-    start_released = started_released

@@ -23,8 +23,9 @@ module _ {S : Type 0} {service : Declarations} {w x : World S} (h : IsRunning se
       t.agreed ∙ ap (λ xs. learned w.agreed (drop count (records_at xs m))) (sym nodes_are) ∙ ap (λ k. learned w.agreed (drop k (records_at x.nodes.items m))) count_is in
       record {
         did = record { world = settled_world service w x h m there c.works as_many on more is ∙ c.did.world; effects = c.did.effects; sent = c.did.sent };
-        running = settled_running service w x h m there c.works as_many on more is;
-        same = record { nodes = as_many; requests = c.same.requests; seed = c.same.seed };
-        done = c.done;
-        flushed = c.flushed;
+        goes = record {
+          running = settled_running service w x h m there c.works as_many on more is;
+          same = record { nodes = as_many; requests = c.same.requests; seed = c.same.seed };
+          done = c.done;
+        };
       }

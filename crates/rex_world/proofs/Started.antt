@@ -1,5 +1,5 @@
 -- A node that is started does as the model's.
-use Rattle.rex_world.proofs.Common.{◌≡◌, ℕ, true, false, List, [], ◌∷◌, ◌++◌, length, Result, Ok, Err, IfOk, refl, ap, sym, ◌∙◌, subst, Declarations, Effect, known, promise, begin, migrate, Here, Value, service_of, values_fit, Refusal, Step, Does, EndsDown, log_of, StaysNode, count_of, knows, HasForgotten, Starts, IsDone, Member, IsKeeping, IsMember, StaysMember, here_at, records_of}
+use Rattle.rex_world.proofs.Common.{◌≡◌, ℕ, true, false, List, [], ◌∷◌, ◌++◌, length, Result, Ok, Err, IfOk, refl, ap, sym, ◌∙◌, subst, Declarations, Effect, known, promise, begin, migrate, Here, Value, service_of, values_fit, Refusal, Step, Does, EndsDown, log_of, StaysNode, count_of, knows, HasForgotten, Starts, IsDone, Member, IsKeeping, here_at, records_of, StaysOwnMember, IsOwnMember}
 use Rattle.rex_report.specs.declared.effect.Effect.TheVariants as effect
 use Rattle.rex_cluster.proofs.Migrated.{migrated_sends}
 use Rattle.rex_node.proofs.Ending.{no_messages}
@@ -11,7 +11,7 @@ use Rattle.rex_world.proofs.Failing.{follows, is_done}
 use Rattle.rex_world.proofs.Knowing.{count_known}
 use Rattle.rex_cluster.proofs.Unseen.{migrate_either}
 
-module _ {service : Declarations} {past : List Value} {old : Member} (member : IsMember service past old.seed old.nodes old.id old) (up : old.up ≡ true) where
+module _ {service : Declarations} {past : List Value} {old : Member} (member : IsOwnMember service past old) (up : old.up ≡ true) where
   abbrev h : Here
   h = here_at service past old
 
@@ -51,7 +51,7 @@ module _ {service : Declarations} {past : List Value} {old : Member} (member : I
               ∙ ap (λ es. told_up ∷ es) done.effects;
         }
 
-    pub migrate_stays : StaysNode records_of service past old new → EndsDown old.id old.keeper.faults new.keeper.faults new.up migrated → StaysMember service past old.seed old.nodes old.id old new
+    pub migrate_stays : StaysNode records_of service past old new → EndsDown old.id old.keeper.faults new.keeper.faults new.up migrated → StaysOwnMember service past old new
     migrate_stays stays ends = does_stays member new _ migrated (λ f. migrate_either f (service_of service old.seed) old.id) stays does ends up
 
     -- what both steps did
@@ -61,11 +61,11 @@ module _ {service : Declarations} {past : List Value} {old : Member} (member : I
     joined_back first (Err refusal) first_is effects sends = tt
 
 -- a node is a member still that came up again with its keeper, which was reopened before
-pub is_member : {service : Declarations} {past : List Value} {old down new : Member} → IsMember service past old.seed old.nodes old.id old → Starts service past (here_at service past old)
+pub is_member : {service : Declarations} {past : List Value} {old down new : Member} → IsOwnMember service past old → Starts service past (here_at service past old)
     → down ≡ record old { keeper = record old.keeper { broken = false } } → new.keeper ≡ down.keeper
     → (HasReached service down.offset (knows past down) down.reached → values_fit service (known (log_of service past (records_of down.keeper))) ≡ true
     → HasRightBase service (log_of service past (records_of down.keeper)) → HasForgotten past (log_of service past (records_of down.keeper)) → IsNode records_of service past new)
-    → IsMember service past new.seed new.nodes new.id new
+    → IsOwnMember service past new
 is_member {service} {past} {old} {new} member starts is same kept =
     let keeper_is : new.keeper ≡ record old.keeper { broken = false } = same ∙ ap (λ x. x.keeper) is in
     record {

@@ -1,5 +1,5 @@
 -- A node of a running world is active, or has no live events.
-use Rattle.rex_world.proofs.Common.{◌≡◌, ◌⊎◌, inl, inr, ℕ, ◌+◌, ◌-◌, ◌^◌, ◌<◌, ◌≤◌, true, List, [], ◌∷◌, ◌++◌, length, Option, Some, None, is_some, refl, sym, ◌∙◌, ap, subst, arith, unwrap_or, slice_index_or, list_all, and_parts, Declarations, IsNode, start_of, lane_of, known, Lead, Role, Leads, Value, spells, runs, trace_of, state_after, values_fit, Here, live_state, node_at, next_fits, ActingValue, IsActing, role_of, work_of, AreLimits, counts_for, World, Member, IsMember, here_at, heres, nodes_of, IsRunning}
+use Rattle.rex_world.proofs.Common.{◌≡◌, ◌⊎◌, inl, inr, ℕ, ◌+◌, ◌-◌, ◌^◌, ◌<◌, ◌≤◌, true, List, [], ◌∷◌, ◌++◌, length, Option, Some, None, is_some, refl, sym, ◌∙◌, ap, subst, arith, unwrap_or, slice_index_or, list_all, and_parts, Declarations, IsNode, start_of, lane_of, known, Lead, Role, Leads, Value, spells, runs, trace_of, state_after, values_fit, Here, live_state, next_fits, ActingValue, IsActing, role_of, work_of, AreLimits, counts_for, World, Member, IsMember, here_at, nodes_of, IsRunning, node_in}
 use Rattle.std.proofs.lemmas.List.{append-nil}
 use Rattle.rex_event.specs.Cuts.{below}
 use Rattle.rex_cut.specs.Greatest.{greatest_cut}
@@ -33,7 +33,7 @@ spare (x ∷ xs) l = x
 
 module _ {S : Type 0} (service : Declarations) (w : World S) (h : IsRunning service w) (m : ℕ) (there : IsNode (nodes_of w) m) where
   abbrev here : Here
-  here = node_at (heres service w.agreed w.nodes.items) m
+  here = node_in service w m
 
   works : here.up ≡ true → Works here.role here.work
   works up =

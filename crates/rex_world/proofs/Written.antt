@@ -1,6 +1,5 @@
 -- A report that is written piece by piece.
 use Rattle.rex_world.proofs.Common.{◌≡◌, ℕ, List, [], ◌∷◌, ◌++◌, length, take, drop, refl, sym, ap, ◌∙◌, append_assoc, append-nil, take-append-drop, GrowsByFront, IsWritten}
-use Rattle.std.specs.Prelude.{Result, Ok, Err, OnErr}
 use Rattle.rex_traits.proofs.Known.{grows_more}
 
 take_none : (xs : List ℕ) → take 0 xs ≡ []
@@ -46,6 +45,3 @@ pub written_last : {a b c waiting text rest whole : List ℕ} → IsWritten a b 
 written_last {a} {b} {c} {waiting} {text} h is k =
     grows_more a b c h.written _ h.taken k ∙ ap (λ xs. a ++ xs) (ap (λ xs. h.written ++ (waiting ++ xs)) (sym is) ∙ h.parts)
 
-pub on_err : {A E P : Type 0} (r : Result A E) → P → OnErr r P
-on_err (Ok x) p = tt
-on_err (Err e) p = p

@@ -2,6 +2,7 @@
 use Rattle.std.specs.Prelude.{◌≡◌, ◌≢◌, ◌≤◌, ◌<◌, ℕ, ℤ, pos, suc, drop, Bool, true, false, List, [], ◌++◌, length, map, replicate, Result, Ok, Err, if◌then◌else◌}
 use Rattle.std.specs.List.{All}
 use Rattle.std.specs.Option.{option_copied}
+use Rattle.std.specs.declared.alloc.AllocError.{AllocError}
 use Rattle.rex_ballot.specs.Limits.{most_nodes}
 use Rattle.rex_syntax.specs.declared.service.Declarations.{Declarations}
 use Rattle.rex_syntax.specs.Versions.{has_version}
@@ -17,7 +18,7 @@ use Rattle.rex_cluster.specs.Lanes.{Here, CallHere}
 use Rattle.rex_syntax.specs.declared.request.Request.{Request}
 use Rattle.rex_schedule.specs.declared.scenario.ScheduleLine.{ScheduleLine}
 use Rattle.rex_schedule.specs.declared.scenario.ScheduleLine.TheVariants.{KeepFail}
-use Rattle.rex_cluster.specs.World.{World as ModelWorld, Row, at_node, node_at, step, steps, sent_from}
+use Rattle.rex_cluster.specs.World.{World as ModelWorld, Row, at_node, step, steps, steps_of, sent_from}
 use Rattle.rex_cluster.specs.Reading.{seen_by_releases, stamp_at}
 use Rattle.rex_cluster.specs.Releases.{IsAmong}
 use Rattle.rex_msg.specs.declared.message.Message.{Message as Sent}
@@ -35,8 +36,8 @@ use Rattle.rex_world.specs.declared.told.Told.{Told}
 use Rattle.rex_world.specs.declared.world.World.{World}
 use Rattle.rex_world.specs.Agreed.{learned}
 use Rattle.rex_world.specs.Finding.{IsSent}
-use Rattle.rex_world.specs.Members.{AreMembers, heres, records_at}
-use Rattle.rex_world.specs.World.{nodes_of, world_of}
+use Rattle.rex_world.specs.Members.{AreMembers, IsOwnMember, Member, StaysOwnMember, here_at, records_at}
+use Rattle.rex_world.specs.World.{node_in, nodes_of, row_in, steps_in, world_of}
 use Rattle.rex_world.specs.Kept.{IsRunning, IsSame}
 use Rattle.rex_event.specs.declared.event.TheConstants.{CLIENT_ENTRIES}
 
@@ -56,11 +57,27 @@ pub record HasCome (past : List Value) (d : CallHere) (x : Here) (step : Step) :
   pub sends : map (message_in past) step.sends ≡ d.sends
   pub effects : step.effects ≡ d.effects
 
+-- so it has, without messages, and stays a member
+pub record ComesQuietly (service : Declarations) (past : List Value) (call : Here → CallHere) (before after : Member) (step : Step) : Type 0 where
+  pub came : HasCome past (call (here_at service past before)) (here_at service past after) step
+  pub quiet : step.sends ≡ []
+  pub stays : StaysOwnMember service past before after
+
 -- what the node knows are deltas that run from the start, of which it doesn't hold the first values of the past, and its last checkpoint is of the state to which they run up to it
 pub record Starts (service : Declarations) (past : List Value) (x : Here) : Type 0 where
   pub fit : values_fit service (known x.log) ≡ true
   pub base : HasRightBase service x.log
   pub forgotten : HasForgotten past x.log
+
+-- a member can be started
+pub record CanStart (service : Declarations) (past : List Value) (x : Member) : Type 0 where
+  pub member : IsOwnMember service past x
+  pub runs : Starts service past (here_at service past x)
+
+-- a member that is up
+pub record IsUpMember (service : Declarations) (past : List Value) (x : Member) : Type 0 where
+  pub member : IsOwnMember service past x
+  pub up : x.up ≡ true
 
 -- memory was not short
 abbrev pub IsWhole : {A : Type 0} → Result A Refusal → Type 0
@@ -80,9 +97,15 @@ CanCall service w number (Ask other) = IsNode (nodes_of w) other × (number ≢ 
 CanCall service w number (Checkpoint version) = has_version service version ≡ true
 CanCall service w number _ = Unit {0}
 
+-- a call may be made: the world runs, the node is there, and so is what the call names
+pub record MayCall {S : Type 0} (service : Declarations) (w : World S) (number : ℕ) (call : Call) : Type 0 where
+  pub running : IsRunning service w
+  pub there : IsNode (nodes_of w) number
+  pub may : CanCall service w number call
+
 -- the call of the model that it is
 abbrev pub call_at : {S : Type 0} → Declarations → World S → ℕ → Call → CallHere → CallHere
-call_at service w number call = call_for service w.agreed w.seed (nodes_of w) number (node_at (heres service w.agreed w.nodes.items) number) call
+call_at service w number call = call_for service w.agreed w.seed (nodes_of w) number (node_in service w number) call
 
 -- ---- telling
 
@@ -103,31 +126,45 @@ pub record Sends (sends : List Sent) (before after : List (List ℕ)) (old_hande
 pub record AreReleased (x : Here) (effects : List Effect) : Type 0 where
   pub leads : (client sequence : ℕ) (value : ℤ) → IsAmong (effect.Released client sequence value) effects → (x.up ≡ true) × (is_active x.role ≡ true)
 
--- a step of the node of this number can be told: its messages have numbers in their ranges, its replies were released by a node that is up and active, the nodes are kept, and there is a number for each client
-pub record CanBeTold {S : Type 0} (service : Declarations) (w : World S) (number : ℕ) (step : Step) : Type 0 where
-  pub sends : All IsMessage step.sends
-  pub releases : AreReleased (node_at (heres service w.agreed w.nodes.items) number) step.effects
-  pub few : nodes_of w ≤ most_nodes
+-- what a member's effects show to clients can be shown: it released its replies while it was up and active, and there is a number for each client
+pub record CanShow (service : Declarations) (past : List Value) (x : Member) (seen : List ℕ) (effects : List Effect) : Type 0 where
+  pub member : IsOwnMember service past x
+  pub clients : length seen ≡ CLIENT_ENTRIES
+  pub releases : AreReleased (here_at service past x) effects
+
+-- the same of the node of this number in a world, whose nodes are kept
+pub record CanShowIn {S : Type 0} (service : Declarations) (w : World S) (number : ℕ) (effects : List Effect) : Type 0 where
+  pub there : IsNode (nodes_of w) number
   pub members : AreMembers service w.agreed w.seed (nodes_of w) 1 w.nodes.items
   pub clients : length w.seen.items ≡ CLIENT_ENTRIES
+  pub releases : AreReleased (node_in service w number) effects
+
+-- a step of the node of this number can be told: its messages have numbers in their ranges, and what its effects show can be shown
+pub record CanBeTold {S : Type 0} (service : Declarations) (w : World S) (number : ℕ) (step : Step) : Type 0 where
+  pub sends : All IsMessage step.sends
+  pub few : nodes_of w ≤ most_nodes
+  pub shows : CanShowIn service w number step.effects
 
 -- a node's step was told and its messages were sent, clients have seen the replies that it released, and then what the node's records after so many say that it knows was agreed; nothing else of the world changed
 pub record IsSettled {S : Type 0} (service : Declarations) (number count : ℕ) (before after : World S) (old new : Told) (step : Step) : Type 0 where
   pub sends : Sends step.sends before.net after.net before.handed.items after.handed.items old.sent.items new.sent.items
   pub effects : new.effects.items ≡ old.effects.items ++ step.effects
-  pub seen : after.seen.items ≡ seen_by_releases (stamp_at (node_at (heres service before.agreed before.nodes.items) number)) step.effects before.seen.items
+  pub seen : after.seen.items ≡ seen_by_releases (stamp_at (node_in service before number)) step.effects before.seen.items
   pub agreed : after.agreed ≡ learned before.agreed (drop count (records_at before.nodes.items number))
   pub rest : after ≡ record before { net = after.net; handed = after.handed; seen = after.seen; agreed = after.agreed }
 
 -- ---- what comes of it
 
--- so it did, with the world running before and after, over the same nodes, requests and seed, and with the same counts of lines and of flushed messages
-pub record ComesTo {S : Type 0} (service : Declarations) (before after : World S) (old new : Told) (r : Row) : Type 0 where
-  pub did : Did (world_of service before) (world_of service after) old new r
+-- a world runs on, over the same nodes, requests and seed, and with the same count of lines
+pub record GoesOn {S : Type 0} (service : Declarations) (before after : World S) : Type 0 where
   pub running : IsRunning service after
   pub same : IsSame before after
   pub done : after.done ≡ before.done
-  pub flushed : after.flushed ≡ before.flushed
+
+-- the world came to a row of the model, and runs on
+pub record ComesTo {S : Type 0} (service : Declarations) (before after : World S) (old new : Told) (r : Row) : Type 0 where
+  pub did : Did (world_of service before) (world_of service after) old new r
+  pub goes : GoesOn service before after
 
 -- a step of the model of the world
 abbrev pub step_in : {S : Type 0} → Declarations → World S → ScheduleLine → Row
@@ -143,6 +180,22 @@ ComesAt service before after old new number call = ComesTo service before after 
 -- the same of steps one after the other
 abbrev pub DidSteps : Declarations → List Request → (seed n : ℕ) → (before after : ModelWorld) → (old new : Told) → List ScheduleLine → Type 0
 DidSteps service requests seed n before after old new lines = Did before after old new (steps service requests seed n before lines)
+
+-- a schedule line was done by its steps
+abbrev pub DidLine : {S : Type 0} → Declarations → (before after : World S) → (old new : Told) → ScheduleLine → Type 0
+DidLine service before after old new line = Did (world_of service before) (world_of service after) old new (steps_in service before (steps_of (world_of service before) line))
+
+-- the row of a schedule line was done and counted, and told by these effects, and the world runs on, over the same nodes, requests and seed
+pub record DoesRow {S : Type 0} (service : Declarations) (before after : World S) (line : ScheduleLine) (told : List Effect) : Type 0 where
+  pub effects : told ≡ (row_in service before line).effects
+  pub world : world_of service after ≡ (row_in service before line).world
+  pub running : IsRunning service after
+  pub same : IsSame before after
+
+-- how a schedule line ends: its row was done, or the world is broken
+abbrev pub EndsRow : {S : Type 0} → Declarations → (before after : World S) → ScheduleLine → Result (List Effect) AllocError → Type 0
+EndsRow service before after line (Ok told) = DoesRow service before after line told
+EndsRow service before after line (Err e) = after.broken ≡ true
 
 -- a line but one that arms a keeper
 abbrev pub ArmsNone : ScheduleLine → Type 0

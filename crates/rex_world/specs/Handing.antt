@@ -6,7 +6,9 @@ use Rattle.rex_schedule.specs.declared.scenario.ScheduleLine.{ScheduleLine}
 use Rattle.rex_schedule.specs.declared.scenario.ScheduleLine.TheVariants.{Deliver}
 use Rattle.rex_cluster.specs.World.{World as ModelWorld, waiting_from}
 use Rattle.rex_world.specs.declared.told.Told.{Told}
-use Rattle.rex_world.specs.Calls.{DidSteps}
+use Rattle.rex_world.specs.declared.world.World.{World}
+use Rattle.rex_world.specs.Calls.{DidSteps, GoesOn}
+use Rattle.rex_world.specs.World.{nodes_of, world_of}
 
 -- the step for the message at a place, from 0 on: none where a line handed it over
 abbrev pub step_at : ℕ → Bool → List ScheduleLine
@@ -27,3 +29,8 @@ is_some_there (number ∷ numbers) = true
 pub record HandsAllOver (service : Declarations) (requests : List Request) (seed n : ℕ) (before after : ModelWorld) (old new : Told) (waits : Bool) : Type 0 where
   pub did : DidSteps service requests seed n before after old new (map Deliver (waiting_from 1 before.handed))
   pub waits-is : waits ≡ is_some_there (waiting_from 1 before.handed)
+
+-- the same of a world, which runs on
+pub record ComesByAll {S : Type 0} (service : Declarations) (before after : World S) (old new : Told) (waits : Bool) : Type 0 where
+  pub did : HandsAllOver service before.requests before.seed (nodes_of before) (world_of service before) (world_of service after) old new waits
+  pub goes : GoesOn service before after

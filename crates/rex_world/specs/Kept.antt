@@ -1,13 +1,16 @@
 -- What is kept of a world from line to line.
-use Rattle.std.specs.Prelude.{◌≡◌, ◌≤◌, Bool, true, false, length, take}
+use Rattle.std.specs.Prelude.{◌≡◌, ◌≤◌, ◌<◌, ◌+◌, ◌^◌, ℕ, Bool, true, false, length, take}
 use Rattle.std.specs.List.{All, list_all}
 use Rattle.rex_ballot.specs.Limits.{most_nodes}
 use Rattle.rex_syntax.specs.declared.service.Declarations.{Declarations}
 use Rattle.rex_syntax.specs.Service.{IsService}
 use Rattle.rex_syntax.specs.Check.{IsChecked}
-use Rattle.rex_schedule.specs.Fits.{RequestFits}
+use Rattle.rex_syntax.specs.Versions.{has_old_form}
+use Rattle.rex_schedule.specs.Fits.{FormFits, IsNode, LineFits, RequestFits, ScenarioFits}
 use Rattle.rex_schedule.specs.declared.scenario.Scenario.{Scenario}
+use Rattle.rex_schedule.specs.declared.scenario.ScheduleLine.{ScheduleLine}
 use Rattle.rex_cluster.specs.Agreed.{agreed}
+use Rattle.rex_cluster.specs.World.{beginning}
 use Rattle.rex_safety.specs.Kept.{IsKept}
 use Rattle.rex_world.specs.declared.world.World.{World}
 use Rattle.rex_world.specs.Members.{AreMembers, AreWithin}
@@ -42,3 +45,30 @@ pub record IsOf {S : Type 0} (s : Scenario) (w : World S) : Type 0 where
   pub nodes : nodes_of w ≡ s.nodes
   pub requests : w.requests ≡ s.requests
   pub seed : w.seed ≡ s.seed
+
+-- a world runs, and a node of this number is there
+pub record RunsWith {S : Type 0} (service : Declarations) (w : World S) (number : ℕ) : Type 0 where
+  pub running : IsRunning service w
+  pub there : IsNode (nodes_of w) number
+
+-- a world runs, and a schedule line can be done in it and counted: it names what is there, in a form that its service has
+pub record CanDo {S : Type 0} (service : Declarations) (w : World S) (line : ScheduleLine) : Type 0 where
+  pub running : IsRunning service w
+  pub fits : LineFits (nodes_of w) (length w.requests) service.lanes line
+  pub form : FormFits (has_old_form service) line
+  pub count : w.done + 1 < 2 ^ 32
+
+-- a world runs, and the lines of a scenario's schedule can be done in it and counted
+pub record CanRun {S : Type 0} (service : Declarations) (s : Scenario) (w : World S) : Type 0 where
+  pub running : IsRunning service w
+  pub fits : ScenarioFits service s
+  pub of : IsOf s w
+  pub count : w.done + length s.schedule < 2 ^ 32
+
+-- the world of a scenario before its first line
+pub record IsFirst {S : Type 0} (service : Declarations) (s : Scenario) (w : World S) : Type 0 where
+  pub world : world_of service w ≡ beginning s.nodes
+  pub nodes : nodes_of w ≡ s.nodes
+  pub requests : w.requests ≡ s.requests
+  pub seed : w.seed ≡ s.seed
+  pub running : IsRunning service w

@@ -1,11 +1,12 @@
 -- The nodes of a world, up or down, as the cluster's model has them.
-use Rattle.std.specs.Prelude.{◌≡◌, ◌<◌, ◌≤◌, ◌+◌, ◌-◌, ◌^◌, ℕ, suc, true, false, List, [], ◌∷◌, map, get_or, Option, Some, None}
+use Rattle.std.specs.Prelude.{◌≡◌, ◌<◌, ◌≤◌, ◌+◌, ◌-◌, ◌^◌, ℕ, suc, true, false, List, [], ◌∷◌, length, map, replicate, get_or, Option, Some, None}
+use Rattle.std.specs.List.{All}
 use Rattle.rex_syntax.specs.declared.service.Declarations.{Declarations}
 use Rattle.rex_traits.specs.Keeping.{KeeperValue}
 use Rattle.rex_traits.specs.Stores.{StoreValue, fresh_store}
 use Rattle.rex_traits.specs.declared.mem_keeper.Fate.{Fate}
 use Rattle.rex_traits.specs.declared.mem_keeper.Fate.TheVariants.{Kept, Lost}
-use Rattle.rex_cluster.specs.Node.{Failure}
+use Rattle.rex_cluster.specs.Node.{Failure, new_node}
 use Rattle.rex_cluster.specs.Node.Failure.{After}
 use Rattle.rex_cluster.specs.Invariant.{Begins}
 use Rattle.rex_cluster.specs.Lanes.{Here}
@@ -75,6 +76,10 @@ abbrev pub AreMembers : Declarations → List Value → (seed nodes number : ℕ
 AreMembers service past seed nodes number [] = Unit {0}
 AreMembers service past seed nodes number (x ∷ xs) = IsMember service past seed nodes number x × AreMembers service past seed nodes (suc number) xs
 
+-- a member by what it says itself: its number, how many nodes there are, and the seed
+abbrev pub IsOwnMember : Declarations → List Value → Member → Type 0
+IsOwnMember service past x = IsMember service past x.seed x.nodes x.id x
+
 -- no keeper of these nodes fails more often
 abbrev pub AreWithin : ℕ → List Member → Type 0
 AreWithin most [] = Unit {0}
@@ -85,12 +90,28 @@ pub record AreKept (service : Declarations) (past : List Value) (seed nodes most
   pub members : AreMembers service past seed nodes 1 xs
   pub within : AreWithin most xs
 
+-- so many nodes, the first ones, before the first line: each is the model's new node, and no append of its keeper fails
+pub record AreNew (service : Declarations) (seed nodes number : ℕ) (xs : List Member) : Type 0 where
+  pub here : heres service [] xs ≡ replicate number new_node
+  pub are : AreMembers service [] seed nodes 1 xs
+  pub within : AreWithin 0 xs
+  pub many : length xs ≡ number
+
 -- a node stays, its keeper won't fail more often than it was to, and has its records and maybe more
 pub record StaysMember (service : Declarations) (past : List Value) (seed nodes number : ℕ) (before after : Member) : Type 0 where
   pub member : IsMember service past seed nodes number after
   pub within : faults_of after.keeper ≤ faults_of before.keeper
   pub grown : Begins (records_of before.keeper) (records_of after.keeper)
 
+-- it stays by what it says itself
+abbrev pub StaysOwnMember : Declarations → List Value → (before after : Member) → Type 0
+StaysOwnMember service past before after = StaysMember service past before.seed before.nodes before.id before after
+
 -- a store of a node that never was: it has no records, no append of it failed, none is to, and it fails only as it is armed
 pub record IsFresh {K : Type 0} (value : K → StoreValue) (store : K) : Type 0 where
   pub is : value store ≡ fresh_store
+
+-- so many stores, each of a node that never was
+pub record AreFresh {K : Type 0} (value : K → StoreValue) (count : ℕ) (stores : List K) : Type 0 where
+  pub many : length stores ≡ count
+  pub fresh : All (IsFresh value) stores

@@ -1,5 +1,7 @@
 -- The report of a scenario.
-use Rattle.std.specs.Prelude.{ℕ, suc, ◌+◌, List, [], ◌∷◌, ◌++◌, length, take, is_some, if◌then◌else◌}
+use Rattle.std.specs.Prelude.{ℕ, suc, ◌+◌, ◌≤◌, List, [], ◌∷◌, ◌++◌, length, take, is_some, if◌then◌else◌}
+use Rattle.rex_ballot.specs.declared.ballots.TheConstants.{INSTANCES}
+use Rattle.rex_record.specs.declared.recorder.TheConstants.{LIVE_EVENTS}
 use Rattle.rex_syntax.specs.declared.request.Request.{Request}
 use Rattle.rex_syntax.specs.declared.service.Declarations.{Declarations}
 use Rattle.rex_report.specs.declared.effect.Effect.{Effect}
@@ -49,6 +51,11 @@ node_text service number x = end_text (end_of number x) service (shown_state ser
 -- how many events are live at an active node; how many deltas another one has replayed
 abbrev pub count_of : {K : Type 0} → NodeValue K → ℕ
 count_of x = if is_active (role_of x.acceptor x.proposer (is_some x.acting)) then length (work_of x.acting).live else x.replayed
+
+-- its line has room for how many events are live and how many values are known
+pub record EndFits {K : Type 0} (x : NodeValue K) : Type 0 where
+  pub live : length (work_of x.acting).live ≤ LIVE_EVENTS
+  pub known : parts.count_of x ≤ INSTANCES
 
 -- what a node that is up came to, from its parts
 abbrev pub up_end_of : {K : Type 0} → NodeValue K → UpEnd

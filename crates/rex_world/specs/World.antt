@@ -1,13 +1,15 @@
 -- The world of the cluster's model that a world is.
 use Rattle.std.specs.Prelude.{◌≡◌, ℕ, List, [], ◌∷◌, length, Result, Ok, Err}
 use Rattle.rex_syntax.specs.declared.service.Declarations.{Declarations}
+use Rattle.rex_schedule.specs.declared.scenario.ScheduleLine.{ScheduleLine}
 use Rattle.rex_msg.specs.declared.message.Message.{Message as Sent}
 use Rattle.rex_msg.specs.Spelling.{HasSpelling, spelling_of}
 use Rattle.rex_msg.specs.Reading.{message_in as read_in}
 use Rattle.rex_cluster.specs.Node.{Message}
 use Rattle.rex_cluster.specs.Node.Content.{Ask}
 use Rattle.rex_cluster.specs.Values.{Value}
-use Rattle.rex_cluster.specs.World.{World as ModelWorld}
+use Rattle.rex_cluster.specs.Lanes.{Here}
+use Rattle.rex_cluster.specs.World.{World as ModelWorld, Row, node_at, row, steps}
 use Rattle.rex_log.specs.Messages.{message_in}
 use Rattle.rex_node.specs.Telling.{IsTold}
 use Rattle.rex_world.specs.declared.world.World.{World}
@@ -52,3 +54,15 @@ world_of service w = record {
 -- so many nodes it has
 abbrev pub nodes_of : {S : Type 0} → World S → ℕ
 nodes_of w = length w.nodes.items
+
+-- the node of a number, as the model has it
+abbrev pub node_in : {S : Type 0} → Declarations → World S → ℕ → Here
+node_in service w number = node_at (heres service w.agreed w.nodes.items) number
+
+-- the row of a schedule line from here
+abbrev pub row_in : {S : Type 0} → Declarations → World S → ScheduleLine → Row
+row_in service w line = row service w.requests w.seed (nodes_of w) (world_of service w) line
+
+-- steps one after the other from here
+abbrev pub steps_in : {S : Type 0} → Declarations → World S → List ScheduleLine → Row
+steps_in service w lines = steps service w.requests w.seed (nodes_of w) (world_of service w) lines

@@ -5,13 +5,12 @@ ghost use Rattle.rex_schedule.specs.Fits.{IsNode};
 ghost use Rattle.rex_syntax.specs.declared.service.Declarations.{Declarations};
 ghost use Rattle.rex_cluster.specs.Agreed as model;
 ghost use Rattle.rex_cluster.specs.Reading.{seen_by_releases, stamp_at};
-ghost use Rattle.rex_cluster.specs.World.{node_at};
 ghost use Rattle.rex_world.specs.Agreed as specs;
 ghost use Rattle.rex_world.specs.Agreed.{learned, learned_in};
-ghost use Rattle.rex_world.specs.Calls.{AreReleased, CanBeTold, IsSettled};
+ghost use Rattle.rex_world.specs.Calls.{CanBeTold, CanShowIn, IsSettled};
 ghost use Rattle.rex_world.specs.Kept.{IsRunning};
-ghost use Rattle.rex_world.specs.Members.{AreMembers, heres, records_at, records_of};
-ghost use Rattle.rex_world.specs.World.{nodes_of, world_of};
+ghost use Rattle.rex_world.specs.Members.{records_at, records_of};
+ghost use Rattle.rex_world.specs.World.{node_in, nodes_of, world_of};
 
 use crate::calls::{send_all, tell_all};
 use crate::seeing::show;
@@ -19,7 +18,6 @@ use crate::told::Told;
 use crate::world::World;
 use rex_ballot::Value;
 use rex_durable::layout::{HEAD, KNOWN};
-use rex_event::CLIENT_ENTRIES;
 use rex_list::List;
 use rex_node::Step;
 use rex_report::Effect;
@@ -86,12 +84,8 @@ impl<S: Store> World<S> {
 
     // The clients to which a node released replies by these effects have seen them.
     fn show(&mut self, svc: &Checked, node: u8, effects: &[Effect]) -> Result<(), AllocError>
-        requires there { IsNode (nodes_of self.old) node }
-        requires members { AreMembers svc.now self.old.agreed self.old.seed (nodes_of self.old) 1 self.old.nodes.items }
-        requires clients { length self.old.seen.items ≡ CLIENT_ENTRIES }
-        requires releases { AreReleased (node_at (heres svc.now self.old.agreed self.old.nodes.items) node) effects.now }
-        ensures seen { OnOk result (self.new.seen.items
-            ≡ seen_by_releases (stamp_at (node_at (heres svc.now self.old.agreed self.old.nodes.items) node)) effects.now self.old.seen.items) }
+        requires { CanShowIn svc.now self.old node effects.now }
+        ensures seen { OnOk result (self.new.seen.items ≡ seen_by_releases (stamp_at (node_in svc.now self.old node)) effects.now self.old.seen.items) }
         ensures rest { self.new ≡ record self.old { seen = self.new.seen } }
     {
         show::<Brand, S>(
@@ -114,8 +108,7 @@ impl<S: Store> World<S> {
         count: usize,
         step: Step,
     ) -> Result<(), AllocError>
-        requires there { IsNode (nodes_of self.old) node }
-        requires step { CanBeTold svc.now self.old node step }
+        requires { CanBeTold svc.now self.old node step }
         ensures { OnOk result (IsSettled svc.now node count self.old self.new told.old told.new step) }
     {
         let Step { effects, sends } = step;

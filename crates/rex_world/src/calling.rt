@@ -1,11 +1,9 @@
 //! What a world has its nodes do.
 
 ghost use Rattle.std.specs.Prelude.{◌≡◌, ◌≤◌, OnOk};
-ghost use Rattle.rex_schedule.specs.Fits.{IsNode};
 ghost use Rattle.rex_schedule.specs.declared.scenario.ScheduleLine.TheVariants as line;
-ghost use Rattle.rex_world.specs.World.{nodes_of};
-ghost use Rattle.rex_world.specs.Kept.{IsRunning};
-ghost use Rattle.rex_world.specs.Calls.{CanCall, Comes, ComesAt};
+ghost use Rattle.rex_world.specs.Kept.{RunsWith};
+ghost use Rattle.rex_world.specs.Calls.{Comes, ComesAt, MayCall};
 
 use crate::seeing::read_at;
 use crate::starting::{start_at, stop_at};
@@ -29,9 +27,7 @@ impl<S: Store> World<S> {
         node: u8,
         call: &Call<'_>,
     ) -> Result<(), AllocError>
-        requires running { IsRunning svc.now self.old }
-        requires there { IsNode (nodes_of self.old) node }
-        requires may { CanCall svc.now self.old node call.now }
+        requires { MayCall svc.now self.old node call.now }
         ensures comes { OnOk result (ComesAt svc.now self.old self.new told.old told.new node call.now) }
     {
         let place = node as usize - 1;
@@ -54,8 +50,7 @@ impl<S: Store> World<S> {
         told: &mut Told,
         node: u8,
     ) -> Result<(), AllocError>
-        requires running { IsRunning svc.now self.old }
-        requires there { IsNode (nodes_of self.old) node }
+        requires { RunsWith svc.now self.old node }
         ensures comes { OnOk result (Comes svc.now self.old self.new told.old told.new (line.Stop node)) }
     {
         let place = node as usize - 1;
@@ -71,8 +66,7 @@ impl<S: Store> World<S> {
         told: &mut Told,
         node: u8,
     ) -> Result<(), AllocError>
-        requires running { IsRunning svc.now self.old }
-        requires there { IsNode (nodes_of self.old) node }
+        requires { RunsWith svc.now self.old node }
         ensures comes { OnOk result (Comes svc.now self.old self.new told.old told.new (line.Start node)) }
     {
         let place = node as usize - 1;
@@ -90,8 +84,7 @@ impl<S: Store> World<S> {
         client: u16,
         variable: u16,
     ) -> Result<(), AllocError>
-        requires running { IsRunning svc.now self.old }
-        requires there { IsNode (nodes_of self.old) node }
+        requires at { RunsWith svc.now self.old node }
         requires client { client ≤ CLIENTS }
         ensures comes { OnOk result (Comes svc.now self.old self.new told.old told.new (line.ReadVariable node client variable)) }
     {

@@ -1,12 +1,12 @@
 //! How messages are handed over.
 
-ghost use Rattle.std.specs.Prelude.{◌≡◌, ◌<◌, length, IfOk, OnOk};
-ghost use Rattle.rex_cluster.specs.World as model;
+ghost use Rattle.std.specs.Prelude.{IfOk, OnOk};
 ghost use Rattle.rex_schedule.specs.declared.scenario.ScheduleLine.TheVariants as line;
 ghost use Rattle.rex_world.specs.World.{nodes_of, world_of};
-ghost use Rattle.rex_world.specs.Kept.{IsRunning, IsSame};
-ghost use Rattle.rex_world.specs.Calls.{Did, DidSteps};
-ghost use Rattle.rex_world.specs.Handing.{HandsAllOver, HandsOver};
+ghost use Rattle.rex_world.specs.Kept.{IsRunning};
+ghost use Rattle.rex_world.specs.Calls.{DidLine, GoesOn};
+ghost use Rattle.rex_world.specs.Finding.{RunsWithPlace};
+ghost use Rattle.rex_world.specs.Handing.{ComesByAll, HandsOver};
 
 use crate::told::Told;
 use crate::world::World;
@@ -26,13 +26,10 @@ impl<S: Store> World<S> {
         place: usize,
         waited: bool,
     ) -> Result<bool, AllocError>
-        requires running { IsRunning svc.now self.old }
-        requires there { place < length self.old.handed.items }
+        requires { RunsWithPlace svc.now self.old place }
         ensures did { IfOk result (HandsOver svc.now self.old.requests self.old.seed (nodes_of self.old) (world_of svc.now self.old)
             (world_of svc.now self.new) told.old told.new place waited) }
-        ensures running { OnOk result (IsRunning svc.now self.new) }
-        ensures same { OnOk result (IsSame self.old self.new) }
-        ensures done { OnOk result (self.new.done ≡ self.old.done) }
+        ensures goes { OnOk result (GoesOn svc.now self.old self.new) }
     {
         if self.handed[place] {
             return Ok(waited);
@@ -49,11 +46,7 @@ impl<S: Store> World<S> {
         told: &mut Told,
     ) -> Result<bool, AllocError>
         requires running { IsRunning svc.now self.old }
-        ensures did { IfOk result (HandsAllOver svc.now self.old.requests self.old.seed (nodes_of self.old) (world_of svc.now self.old)
-            (world_of svc.now self.new) told.old told.new) }
-        ensures running { OnOk result (IsRunning svc.now self.new) }
-        ensures same { OnOk result (IsSame self.old self.new) }
-        ensures done { OnOk result (self.new.done ≡ self.old.done) }
+        ensures { IfOk result (ComesByAll svc.now self.old self.new told.old told.new) }
     {
         let count = self.handed.len();
         let mut waited = false;
@@ -72,11 +65,8 @@ impl<S: Store> World<S> {
         told: &mut Told,
     ) -> Result<(), AllocError>
         requires running { IsRunning svc.now self.old }
-        ensures did { OnOk result (DidSteps svc.now self.old.requests self.old.seed (nodes_of self.old) (world_of svc.now self.old)
-            (world_of svc.now self.new) told.old told.new (model.steps_of (world_of svc.now self.old) line.Flush)) }
-        ensures running { OnOk result (IsRunning svc.now self.new) }
-        ensures same { OnOk result (IsSame self.old self.new) }
-        ensures done { OnOk result (self.new.done ≡ self.old.done) }
+        ensures did { OnOk result (DidLine svc.now self.old self.new told.old told.new line.Flush) }
+        ensures goes { OnOk result (GoesOn svc.now self.old self.new) }
     {
         if !self.hand_all_over(svc, replayer, told)? {
             told.effects.push(Effect::Nothing)?;

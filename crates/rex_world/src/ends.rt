@@ -1,19 +1,17 @@
 //! The end lines of a report.
 
-ghost use Rattle.std.specs.Prelude.{◌≡◌, ◌++◌, ◌≤◌, length, OnOk};
-ghost use Rattle.rex_node.specs.Parts as parts;
-ghost use Rattle.rex_node.specs.Parts.{IsNode, here_of, work_of};
+ghost use Rattle.std.specs.Prelude.{◌≡◌, ◌++◌, OnOk};
+ghost use Rattle.rex_node.specs.Parts.{IsNode, here_of};
 ghost use Rattle.rex_world.specs.Kept.{IsRunning};
 ghost use Rattle.rex_world.specs.Report as specs;
-ghost use Rattle.rex_world.specs.Report.{ends_text, node_text};
+ghost use Rattle.rex_world.specs.Report.{EndFits, ends_text, node_text};
 ghost use Rattle.rex_world.specs.Members.{records_of};
 ghost use Rattle.rex_world.specs.World.{world_of};
 
 use crate::world::World;
-use rex_ballot::{INSTANCES, Value};
+use rex_ballot::Value;
 use rex_list::List;
 use rex_node::Node;
-use rex_record::LIVE_EVENTS;
 use rex_report::{End, Role, UpEnd, push_end};
 use rex_syntax::checked::Checked;
 use rex_traits::{Obedient, Store};
@@ -21,7 +19,7 @@ use std::alloc::AllocError;
 
 // How many events are live at an active node; how many deltas another one has replayed.
 fn count_of<S: Store>(node: &Node<Obedient<S>>) -> u32
-    requires { length (work_of node.now.acting).live ≤ LIVE_EVENTS }
+    requires { EndFits node.now }
     ensures { result ≡ specs.count_of node.now }
 {
     match node.role() {
@@ -32,8 +30,7 @@ fn count_of<S: Store>(node: &Node<Obedient<S>>) -> u32
 
 // What a node that is up came to.
 fn up_end_of<S: Store>(node: &Node<Obedient<S>>) -> UpEnd
-    requires live { length (work_of node.now.acting).live ≤ LIVE_EVENTS }
-    requires known { parts.count_of node.now ≤ INSTANCES }
+    requires { EndFits node.now }
     ensures { result ≡ specs.up_end_of node.now }
 {
     UpEnd {

@@ -7,7 +7,7 @@ ghost use Rattle.rex_schedule.specs.declared.scenario.ScheduleLine.TheVariants a
 ghost use Rattle.rex_world.specs.Kept.{IsRunning};
 ghost use Rattle.rex_world.specs.World.{IsSpelled};
 ghost use Rattle.rex_world.specs.Calls.{Comes};
-ghost use Rattle.rex_world.specs.Finding.{IsSent, IsFound, IsMarked};
+ghost use Rattle.rex_world.specs.Finding.{IsFound, IsMarked, RunsWithSent};
 
 use crate::calls::kind_of;
 use crate::told::Told;
@@ -64,8 +64,7 @@ impl<S: Store> World<S> {
         number: u64,
         message: &Message,
     ) -> Result<(), AllocError>
-        requires running { IsRunning svc.now self.old }
-        requires sent { IsSent self.old.net number message.now }
+        requires { RunsWithSent svc.now self.old number message.now }
         ensures comes { OnOk result (Comes svc.now self.old self.new told.old told.new (line.Deliver number)) }
     {
         told.effects.push(Effect::Delivered {

@@ -1,9 +1,8 @@
 //! A run whose report isn't written.
 
-ghost use Rattle.std.specs.Prelude.{◌≡◌, ◌<◌, ◌+◌, ◌^◌, ◌++◌, filter, length, IfOk, OnOk};
-ghost use Rattle.rex_schedule.specs.Fits.{ScenarioFits};
+ghost use Rattle.std.specs.Prelude.{◌≡◌, ◌++◌, filter, IfOk, OnOk};
 ghost use Rattle.rex_cluster.specs.World.{after_lines};
-ghost use Rattle.rex_world.specs.Kept.{IsOf, IsRunning};
+ghost use Rattle.rex_world.specs.Kept.{CanRun, IsRunning};
 ghost use Rattle.rex_world.specs.Summaries as spec;
 ghost use Rattle.rex_world.specs.World.{world_of};
 
@@ -47,10 +46,7 @@ impl<S: Store> World<S> {
         replayer: &mut R,
         scenario: &Scenario,
     ) -> Result<Vec<Effect>, AllocError>
-        requires running { IsRunning svc.now self.old }
-        requires fits { ScenarioFits svc.now scenario.now }
-        requires of { IsOf scenario.now self.old }
-        requires count { self.old.done + length scenario.now.schedule < 2 ^ 32 }
+        requires { CanRun svc.now scenario.now self.old }
         ensures world { OnOk result (world_of svc.now self.new ≡ after_lines svc.now scenario.now.requests scenario.now.seed scenario.now.nodes
             (world_of svc.now self.old) scenario.now.schedule) }
         ensures releases { IfOk result (λ es. es.items ≡ spec.releases_from svc.now scenario.now (world_of svc.now self.old) scenario.now.schedule) }

@@ -9,7 +9,7 @@ ghost use Rattle.rex_world.specs.Kept.{IsOf, IsRunning};
 ghost use Rattle.rex_world.specs.Runs.{DidLines};
 ghost use Rattle.rex_world.specs.Report.{effects_text, ends_text, report_from};
 ghost use Rattle.rex_world.specs.World.{world_of};
-ghost use Rattle.rex_world.specs.Writing.{IsWritten};
+ghost use Rattle.rex_world.specs.Writing.{CountsFaults, EndsWrite, IsWritten};
 
 use crate::report::push_effects;
 use crate::world::World;
@@ -44,8 +44,7 @@ fn write_waiting<K: Sink>(sink: &mut K, waiting: &mut Vec<u8>, least: usize) -> 
     ensures ok { OnOk result (IsWritten (K.taken sink.old) (K.taken sink.new) waiting.new.items [] waiting.old.items) }
     ensures all { OnOk result (least ≡ 0 → waiting.new.items ≡ []) }
     ensures front { OnErr result (GrowsByFront (K.taken sink.old) (K.taken sink.new) waiting.old.items) }
-    ensures later { K.faults sink.old ≤ K.faults sink.new }
-    ensures failed { IsErrOf result fault.Failed → Rose (K.faults sink.old) (K.faults sink.new) }
+    ensures cause { CountsFaults (K.faults sink.old) (K.faults sink.new) result }
 {
     if waiting.len() < least {
         return Ok(());
@@ -74,10 +73,7 @@ impl<S: Store> World<S> {
             (waiting.old.items ++ effects_text svc.now self.old.done effects.now)) }
         ensures front { OnErr result (GrowsByFront (K.taken sink.old) (K.taken sink.new)
             (waiting.old.items ++ effects_text svc.now self.old.done effects.now)) }
-        ensures same { OnOk result (self.new ≡ self.old) }
-        ensures broken { OnErr result (self.new.broken ≡ true) }
-        ensures later { K.faults sink.old ≤ K.faults sink.new }
-        ensures failed { IsErrOf result fault.Failed → Rose (K.faults sink.old) (K.faults sink.new) }
+        ensures ends { EndsWrite self.old self.new (K.faults sink.old) (K.faults sink.new) result }
     {
         if push_effects(waiting, svc.declarations(), self.done, effects).is_err() {
             self.broken = true;
@@ -100,10 +96,7 @@ impl<S: Store> World<S> {
         requires { IsRunning svc.now self.old }
         ensures whole { OnOk result (K.taken sink.new ≡ K.taken sink.old ++ (waiting.old.items ++ ends_text svc.now 1 (world_of svc.now self.old).nodes)) }
         ensures front { GrowsByFront (K.taken sink.old) (K.taken sink.new) (waiting.old.items ++ ends_text svc.now 1 (world_of svc.now self.old).nodes) }
-        ensures same { OnOk result (self.new ≡ self.old) }
-        ensures broken { OnErr result (self.new.broken ≡ true) }
-        ensures later { K.faults sink.old ≤ K.faults sink.new }
-        ensures failed { IsErrOf result fault.Failed → Rose (K.faults sink.old) (K.faults sink.new) }
+        ensures ends { EndsWrite self.old self.new (K.faults sink.old) (K.faults sink.new) result }
     {
         if self.push_ends(svc, waiting).is_err() {
             self.broken = true;

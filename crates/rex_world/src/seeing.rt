@@ -1,15 +1,14 @@
 //! What clients have seen of the agreed values: replies that were released to them, and values that they read.
 
-ghost use Rattle.std.specs.Prelude.{◌≡◌, ◌≤◌, ◌∷◌, [], true, length, replicate, IfOk, OnOk};
+ghost use Rattle.std.specs.Prelude.{◌≡◌, ◌≤◌, ◌∷◌, [], replicate, IfOk, OnOk};
 ghost use Rattle.rex_reads.specs.Reads.{seen_after};
-ghost use Rattle.rex_cluster.specs.Node.{is_active};
 ghost use Rattle.rex_cluster.specs.Reading as reading;
-ghost use Rattle.rex_cluster.specs.Reading.{released_to, seen_by_release, seen_by_releases, seen_more, stamp_at};
-ghost use Rattle.rex_world.specs.Calls.{AreReleased};
-ghost use Rattle.rex_world.specs.Members.{IsMember, here_at};
+ghost use Rattle.rex_cluster.specs.Reading.{released_to, seen_by_release, seen_by_releases, stamp_at};
+ghost use Rattle.rex_world.specs.Calls.{CanShow};
+ghost use Rattle.rex_world.specs.Members.{IsOwnMember, here_at};
 
 use rex_ballot::Value;
-use rex_event::{CLIENT_ENTRIES, CLIENTS, Event, Kind};
+use rex_event::{CLIENTS, Event, Kind};
 use rex_list::List;
 use rex_log::Past;
 use rex_node::Node;
@@ -38,33 +37,11 @@ pub(crate) fn read_at<P: Past, S: Store>(
     variable: u16,
     seen: &mut Seen,
 ) -> Read
-    requires member { IsMember svc.now P.past node.now.seed node.now.nodes node.now.id node.now }
+    requires member { IsOwnMember svc.now P.past node.now }
     ensures answer { result ≡ reading.read_at svc.now (here_at svc.now P.past node.now) variable seen.old }
     ensures seen { seen.new ≡ seen_after seen.old result }
 {
     node.read::<P>(svc, variable, seen)
-}
-
-// A client to which the node released a reply has seen it.
-fn show_reply<P: Past, S: Store>(
-    node: &Node<Obedient<S>>,
-    svc: &Checked,
-    client: u16,
-    seen: &mut [Seen],
-) -> Result<(), AllocError>
-    requires member { IsMember svc.now P.past node.now.seed node.now.nodes node.now.id node.now }
-    requires clients { length seen.old ≡ CLIENT_ENTRIES }
-    requires up { (here_at svc.now P.past node.now).up ≡ true }
-    requires active { is_active (here_at svc.now P.past node.now).role ≡ true }
-    ensures { OnOk result (seen.new ≡ seen_more client (stamp_at (here_at svc.now P.past node.now) client) seen.old) }
-{
-    // A number that no client has is nowhere kept.
-    let place = client as usize;
-    if place < seen.len() {
-        let stamp = node.stamp::<P>(svc, client)?;
-        seen[place].raise(stamp);
-    }
-    Ok(())
 }
 
 // Where the node released a reply by this effect, its client has seen it.
@@ -74,16 +51,21 @@ fn show_one<P: Past, S: Store>(
     effect: &Effect,
     seen: &mut [Seen],
 ) -> Result<(), AllocError>
-    requires member { IsMember svc.now P.past node.now.seed node.now.nodes node.now.id node.now }
-    requires clients { length seen.old ≡ CLIENT_ENTRIES }
-    requires releases { AreReleased (here_at svc.now P.past node.now) (effect.now ∷ []) }
+    requires { CanShow svc.now P.past node.now seen.old (effect.now ∷ []) }
     ensures { OnOk result (seen.new ≡ seen_by_release (stamp_at (here_at svc.now P.past node.now)) (released_to effect.now) seen.old) }
 {
     let _event: Option<(Event, Kind)> = None;
-    match effect {
-        Effect::Released { client, .. } => show_reply::<P, S>(node, svc, *client, seen),
-        _ => Ok(()),
+    let Effect::Released { client, .. } = effect else {
+        return Ok(());
+    };
+    // A number that no client has is nowhere kept.
+    let place = *client as usize;
+    if place >= seen.len() {
+        return Ok(());
     }
+    let stamp = node.stamp::<P>(svc, *client)?;
+    seen[place].raise(stamp);
+    Ok(())
 }
 
 /// The clients to which the node released replies by these effects have seen them.
@@ -94,9 +76,7 @@ pub(crate) fn show<P: Past, S: Store>(
     effects: &[Effect],
     seen: &mut [Seen],
 ) -> Result<(), AllocError>
-    requires member { IsMember svc.now P.past node.now.seed node.now.nodes node.now.id node.now }
-    requires clients { length seen.old ≡ CLIENT_ENTRIES }
-    requires releases { AreReleased (here_at svc.now P.past node.now) effects.now }
+    requires { CanShow svc.now P.past node.now seen.old effects.now }
     ensures { OnOk result (seen.new ≡ seen_by_releases (stamp_at (here_at svc.now P.past node.now)) effects.now seen.old) }
 {
     for effect in effects {

@@ -1,12 +1,12 @@
 //! How a node is stopped, and starts again.
 
-ghost use Rattle.std.specs.Prelude.{◌≡◌, ◌∷◌, [], true, length, IfOk, IfErr, OnOk};
+ghost use Rattle.std.specs.Prelude.{◌≡◌, ◌∷◌, [], length, IfOk, IfErr};
 ghost use Rattle.rex_cluster.specs.Calls.{stop};
 ghost use Rattle.rex_cluster.specs.Records.{known, promise};
 ghost use Rattle.rex_cluster.specs.Values.{service_of};
 ghost use Rattle.rex_report.specs.declared.effect.Effect.TheVariants as effect;
-ghost use Rattle.rex_world.specs.Members.{IsMember, StaysMember, here_at};
-ghost use Rattle.rex_world.specs.Calls.{HasCome, IsWhole, Starts, served, started};
+ghost use Rattle.rex_world.specs.Members.{IsOwnMember, StaysOwnMember, here_at};
+ghost use Rattle.rex_world.specs.Calls.{CanStart, ComesQuietly, IsUpMember, IsWhole, served, started};
 ghost use Rattle.rex_world.specs.Starting.{CameBack};
 
 use rex_ballot::Value;
@@ -26,10 +26,8 @@ pub(crate) fn stop_at<P: Past, S: Store>(
     alloc: Global,
     svc: &Checked,
 ) -> Result<Step, AllocError>
-    requires member { IsMember svc.now P.past node.old.seed node.old.nodes node.old.id node.old }
-    ensures came { IfOk result (HasCome P.past (served node.old.id (stop node.old.id) (here_at svc.now P.past node.old)) (here_at svc.now P.past node.new)) }
-    ensures quiet { IfOk result (λ step. step.sends ≡ []) }
-    ensures stays { OnOk result (StaysMember svc.now P.past node.old.seed node.old.nodes node.old.id node.old node.new) }
+    requires member { IsOwnMember svc.now P.past node.old }
+    ensures { IfOk result (ComesQuietly svc.now P.past (served node.old.id (stop node.old.id)) node.old node.new) }
 {
     let _service = svc.declarations();
     let number = node.id();
@@ -53,12 +51,8 @@ pub(crate) fn start_at<P: Past, S: Store>(
     alloc: Global,
     svc: &Checked,
 ) -> Result<Step, AllocError>
-    requires member { IsMember svc.now P.past node.old.seed node.old.nodes node.old.id node.old }
-    requires runs { Starts svc.now P.past (here_at svc.now P.past node.old) }
-    ensures came { IfOk result (HasCome P.past (started (service_of svc.now node.old.seed) node.old.id (here_at svc.now P.past node.old))
-        (here_at svc.now P.past node.new)) }
-    ensures quiet { IfOk result (λ step. step.sends ≡ []) }
-    ensures stays { OnOk result (StaysMember svc.now P.past node.old.seed node.old.nodes node.old.id node.old node.new) }
+    requires { CanStart svc.now P.past node.old }
+    ensures { IfOk result (ComesQuietly svc.now P.past (started (service_of svc.now node.old.seed) node.old.id) node.old node.new) }
 {
     let number = node.id();
     if node.is_up() {
@@ -78,8 +72,7 @@ fn came_up<P: Past, S: Store>(
     svc: &Checked,
     node: &Node<Obedient<S>>,
 ) -> Result<Step, Refusal>
-    requires member { IsMember svc.now P.past node.now.seed node.now.nodes node.now.id node.now }
-    requires up { node.now.up ≡ true }
+    requires { IsUpMember svc.now P.past node.now }
     ensures effects { IfOk result (λ step. step.effects ≡ effect.Started node.now.id (promise (here_at svc.now P.past node.now).log)
         (length (known (here_at svc.now P.past node.now).log)) node.now.replayed ∷ []) }
     ensures sends { IfOk result (λ step. step.sends ≡ []) }
@@ -103,11 +96,10 @@ fn come_back<P: Past, S: Store>(
     svc: &Checked,
     node: &mut Node<Obedient<S>>,
 ) -> Result<Step, Refusal>
-    requires member { IsMember svc.now P.past node.old.seed node.old.nodes node.old.id node.old }
-    requires up { node.old.up ≡ true }
+    requires { IsUpMember svc.now P.past node.old }
     ensures back { IfOk result (CameBack (service_of svc.now node.old.seed) node.old.id (here_at svc.now P.past node.old) (here_at svc.now P.past node.new)) }
     ensures memory { IfErr result (λ e. e ≡ Refusal.OutOfMemory) }
-    ensures stays { IsWhole result → StaysMember svc.now P.past node.old.seed node.old.nodes node.old.id node.old node.new }
+    ensures stays { IsWhole result → StaysOwnMember svc.now P.past node.old node.new }
 {
     let step = came_up::<P, S>(alloc, svc, node)?;
     if !node.has_old_base() {

@@ -1,20 +1,15 @@
 //! Events that were made elsewhere, and are handed to a node.
 
-ghost use Rattle.std.specs.Prelude.{◌≡◌, ◌<◌, ◌+◌, ◌^◌, Err, false, true, Some, IfOk, OnOk, OnErr};
+ghost use Rattle.std.specs.Prelude.{◌≡◌, Err, false, true, IfOk, OnOk};
 ghost use Rattle.std.specs.List.{All};
-ghost use Rattle.rex_state.specs.Machine.{lane_of, run};
 ghost use Rattle.rex_state.specs.Counts.{AreCounted};
 ghost use Rattle.rex_schedule.specs.Fits.{IsNode};
-ghost use Rattle.rex_cluster.specs.World.{node_at};
-ghost use Rattle.rex_cluster.specs.Lanes.{live_state};
 ghost use Rattle.rex_cluster.specs.Takes.{BeginsInRange, after_doings, take, taken_in};
-ghost use Rattle.rex_node.specs.Calls.{Refuses, refusal_active};
 ghost use Rattle.rex_node.specs.declared.refusal.Refusal.TheVariants as why;
-ghost use Rattle.rex_world.specs.Taking.{IsHanded, IsHandedBlock, takes_at};
+ghost use Rattle.rex_world.specs.Taking.{CanTake, CanTakeBlock, HandsBlock, HandsEvent, LeadsOn, WasHanded, takes_at};
 ghost use Rattle.rex_world.specs.Calls.{IsWhole};
-ghost use Rattle.rex_world.specs.Members.{IsMember, StaysMember, here_at};
-ghost use Rattle.rex_world.specs.World.{nodes_of, world_of};
-ghost use Rattle.rex_world.specs.Kept.{IsRunning, IsSame};
+ghost use Rattle.rex_world.specs.World.{node_in, nodes_of, world_of};
+ghost use Rattle.rex_world.specs.Kept.{IsRunning};
 
 use crate::world::World;
 use rex_ballot::Value;
@@ -35,10 +30,8 @@ fn take_event_at<P: Past, S: Store>(
     svc: &Checked,
     event: &Event,
 ) -> Result<Turn, Refusal>
-    requires member { IsMember svc.now P.past node.old.seed node.old.nodes node.old.id node.old }
-    requires count { node.old.up ≡ true → (lane_of (live_state svc.now (here_at svc.now P.past node.old)) event.now.lane).done + 1 < 2 ^ 32 }
-    ensures handed { IsHanded svc.now event.now (here_at svc.now P.past node.old) (here_at svc.now P.past node.new) result }
-    ensures stays { StaysMember svc.now P.past node.old.seed node.old.nodes node.old.id node.old node.new }
+    requires { CanTake svc.now P.past node.old event.now }
+    ensures { HandsEvent svc.now P.past event.now node.old node.new result }
 {
     if !node.is_up() {
         return Err(Refusal::Down);
@@ -54,11 +47,8 @@ fn take_block_at<P: Past, S: Store>(
     events: &[Event],
     state: State,
 ) -> Result<(), Refusal>
-    requires member { IsMember svc.now P.past node.old.seed node.old.nodes node.old.id node.old }
-    requires runs { node.old.up ≡ true → run svc.now (live_state svc.now (here_at svc.now P.past node.old)) events.now ≡ Some state }
-    requires counted { AreCounted events.now }
-    ensures handed { IsHandedBlock svc.now events.now (here_at svc.now P.past node.old) (here_at svc.now P.past node.new) result }
-    ensures stays { StaysMember svc.now P.past node.old.seed node.old.nodes node.old.id node.old node.new }
+    requires { CanTakeBlock svc.now P.past node.old events.now state }
+    ensures { HandsBlock svc.now P.past events.now node.old node.new result }
 {
     if !node.is_up() {
         return Err(Refusal::Down);
@@ -81,14 +71,9 @@ impl<S: Store> World<S> {
         requires running { IsRunning svc.now self.old }
         requires there { IsNode (nodes_of self.old) node }
         requires begins { BeginsInRange event.now }
-        ensures refused { Refuses (refusal_active (node_at (world_of svc.now self.old).nodes node)) result }
-        ensures told { IfOk result (λ turn. turn ≡ taken_in svc.now (node_at (world_of svc.now self.old).nodes node) event.now) }
+        ensures handed { WasHanded svc.now self.old self.new node result }
+        ensures told { IfOk result (λ turn. turn ≡ taken_in svc.now (node_in svc.now self.old node) event.now) }
         ensures world { OnOk result (world_of svc.now self.new ≡ take svc.now (world_of svc.now self.old) node event.now) }
-        ensures unchanged { OnErr result (world_of svc.now self.new ≡ world_of svc.now self.old) }
-        ensures running { IsWhole result → IsRunning svc.now self.new }
-        ensures same { IsSame self.old self.new }
-        ensures done { self.new.done ≡ self.old.done }
-        ensures broken { result ≡ Err why.OutOfMemory → self.new.broken ≡ true }
     {
         let member = &mut self.nodes[node as usize - 1];
         let turn = take_event_at::<Brand, S>(member, &self.agreed, svc, event);
@@ -108,17 +93,11 @@ impl<S: Store> World<S> {
         requires running { IsRunning svc.now self.old }
         requires there { IsNode (nodes_of self.old) node }
         requires begins { All BeginsInRange events.now }
-        requires runs { (node_at (world_of svc.now self.old).nodes node).up ≡ true
-            → run svc.now (live_state svc.now (node_at (world_of svc.now self.old).nodes node)) events.now ≡ Some state }
+        requires runs { LeadsOn svc.now (node_in svc.now self.old node) events.now state }
         requires counted { AreCounted events.now }
-        ensures refused { Refuses (refusal_active (node_at (world_of svc.now self.old).nodes node)) result }
+        ensures handed { WasHanded svc.now self.old self.new node result }
         ensures world { OnOk result (world_of svc.now self.new ≡ after_doings svc.now self.old.requests self.old.seed (nodes_of self.old)
             (world_of svc.now self.old) (takes_at node events.now)) }
-        ensures unchanged { OnErr result (world_of svc.now self.new ≡ world_of svc.now self.old) }
-        ensures running { IsWhole result → IsRunning svc.now self.new }
-        ensures same { IsSame self.old self.new }
-        ensures done { self.new.done ≡ self.old.done }
-        ensures broken { result ≡ Err why.OutOfMemory → self.new.broken ≡ true }
     {
         let member = &mut self.nodes[node as usize - 1];
         let taken = take_block_at::<Brand, S>(member, &self.agreed, svc, events, state);

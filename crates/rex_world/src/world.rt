@@ -1,20 +1,18 @@
 //! The world.
 
-ghost use Rattle.std.specs.Prelude.{◌≡◌, ◌<◌, ◌≤◌, ◌+◌, ◌^◌, [], true, length, replicate, IfOk, OnOk, OnErr, if◌then◌else◌};
-ghost use Rattle.std.specs.List.{All};
+ghost use Rattle.std.specs.Prelude.{◌≡◌, ◌<◌, ◌≤◌, ◌+◌, ◌^◌, [], length, IfOk, OnOk, if◌then◌else◌};
 ghost use Rattle.rex_ballot.specs.Limits.{most_nodes};
 ghost use Rattle.rex_syntax.specs.Versions.{has_old_form};
-ghost use Rattle.rex_schedule.specs.Fits.{FormFits, IsNode, LineFits, ScenarioFits};
+ghost use Rattle.rex_schedule.specs.Fits.{FormFits, LineFits, ScenarioFits};
 ghost use Rattle.rex_traits.specs.StoreLaws.{memory_value};
 ghost use Rattle.rex_traits.specs.Stores.{value_by};
 ghost use Rattle.rex_traits.specs.declared.mem_keeper.Fate.TheVariants as fate;
 ghost use Rattle.rex_cluster.specs.Node as model;
-ghost use Rattle.rex_cluster.specs.World.{beginning, row, steps_of};
 ghost use Rattle.rex_schedule.specs.declared.scenario.ScheduleLine.TheVariants as line;
-ghost use Rattle.rex_world.specs.Calls.{ArmsNone, DidSteps};
-ghost use Rattle.rex_world.specs.Members.{AreMembers, AreWithin, IsFresh, IsMember, faults_of, here_at, heres};
-ghost use Rattle.rex_world.specs.World.{nodes_of, world_of};
-ghost use Rattle.rex_world.specs.Kept.{IsRunning, IsSame};
+ghost use Rattle.rex_world.specs.Calls.{ArmsNone, DidLine, EndsRow, GoesOn};
+ghost use Rattle.rex_world.specs.Members.{AreFresh, AreNew, IsFresh, IsMember, faults_of, here_at};
+ghost use Rattle.rex_world.specs.World.{nodes_of};
+ghost use Rattle.rex_world.specs.Kept.{CanDo, IsFirst, IsRunning};
 
 use crate::calls::tell_all;
 use crate::seeing::unseen;
@@ -91,12 +89,8 @@ fn new_nodes<S: Store>(
     keepers: Vec<S>,
 ) -> Result<Vec<Node<Obedient<S>>>, AllocError>
     requires few { nodes ≤ most_nodes }
-    requires many { length keepers.items ≡ nodes }
-    requires fresh { All (IsFresh (value_by S.records S.faults S.armed S.broken S.as_armed)) keepers.items }
-    ensures heres { IfOk result (λ made. heres svc.now [] made.items ≡ replicate nodes model.new_node) }
-    ensures members { IfOk result (λ made. AreMembers svc.now [] seed nodes 1 made.items) }
-    ensures within { IfOk result (λ made. AreWithin 0 made.items) }
-    ensures many { IfOk result (λ made. length made.items ≡ nodes) }
+    requires keepers { AreFresh (value_by S.records S.faults S.armed S.broken S.as_armed) nodes keepers.items }
+    ensures { IfOk result (λ made. AreNew svc.now seed nodes nodes made.items) }
 {
     let mut made = Vec::new(alloc);
     let mut number = 0;
@@ -117,8 +111,7 @@ fn copied(alloc: Global, requests: &List<Request>) -> Result<List<Request>, Allo
 
 // A keeper in memory for each node.
 fn memory_keepers(alloc: Global, nodes: u8) -> Result<Vec<MemKeeper>, AllocError>
-    ensures many { IfOk result (λ keepers. length keepers.items ≡ nodes) }
-    ensures fresh { IfOk result (λ keepers. All (IsFresh memory_value) keepers.items) }
+    ensures { IfOk result (λ keepers. AreFresh memory_value nodes keepers.items) }
 {
     let mut keepers = Vec::new(alloc);
     for _ in 0..nodes {
@@ -142,11 +135,7 @@ impl World<MemKeeper> {
         scenario: &Scenario,
     ) -> Result<World<MemKeeper>, AllocError>
         requires { ScenarioFits svc.now scenario.now }
-        ensures world { IfOk result (λ w. world_of svc.now w ≡ beginning scenario.now.nodes) }
-        ensures nodes { IfOk result (λ w. nodes_of w ≡ scenario.now.nodes) }
-        ensures requests { IfOk result (λ w. w.requests ≡ scenario.now.requests) }
-        ensures seed { IfOk result (λ w. w.seed ≡ scenario.now.seed) }
-        ensures running { IfOk result (λ w. IsRunning svc.now w) }
+        ensures { IfOk result (IsFirst svc.now scenario.now) }
     {
         let keepers = memory_keepers(alloc, scenario.nodes)?;
         World::with_keepers(alloc, svc, scenario, keepers)
@@ -164,13 +153,8 @@ impl<S: Store> World<S> {
         keepers: Vec<S>,
     ) -> Result<World<S>, AllocError>
         requires fits { ScenarioFits svc.now scenario.now }
-        requires many { length keepers.items ≡ scenario.now.nodes }
-        requires fresh { All (IsFresh (value_by S.records S.faults S.armed S.broken S.as_armed)) keepers.items }
-        ensures world { IfOk result (λ w. world_of svc.now w ≡ beginning scenario.now.nodes) }
-        ensures nodes { IfOk result (λ w. nodes_of w ≡ scenario.now.nodes) }
-        ensures requests { IfOk result (λ w. w.requests ≡ scenario.now.requests) }
-        ensures seed { IfOk result (λ w. w.seed ≡ scenario.now.seed) }
-        ensures running { IfOk result (λ w. IsRunning svc.now w) }
+        requires keepers { AreFresh (value_by S.records S.faults S.armed S.broken S.as_armed) scenario.now.nodes keepers.items }
+        ensures { IfOk result (IsFirst svc.now scenario.now) }
     {
         let _service = svc.declarations();
         let requests = copied(alloc, &scenario.requests)?;
@@ -215,15 +199,10 @@ impl<S: Store> World<S> {
         told: &mut Told,
         line: &ScheduleLine,
     ) -> Result<(), AllocError>
-        requires running { IsRunning svc.now self.old }
-        requires fits { LineFits (nodes_of self.old) (length self.old.requests) svc.now.lanes line.now }
-        requires form { FormFits (has_old_form svc.now) line.now }
+        requires can { CanDo svc.now self.old line.now }
         requires kind { ArmsNone line.now }
-        ensures did { OnOk result (DidSteps svc.now self.old.requests self.old.seed (nodes_of self.old) (world_of svc.now self.old)
-            (world_of svc.now self.new) told.old told.new (steps_of (world_of svc.now self.old) line.now)) }
-        ensures running { OnOk result (IsRunning svc.now self.new) }
-        ensures same { OnOk result (IsSame self.old self.new) }
-        ensures done { OnOk result (self.new.done ≡ self.old.done) }
+        ensures did { OnOk result (DidLine svc.now self.old self.new told.old told.new line.now) }
+        ensures goes { OnOk result (GoesOn svc.now self.old self.new) }
     {
         match line {
             ScheduleLine::Elect { node } => self.call(svc, replayer, told, *node, &Call::Elect),
@@ -270,16 +249,8 @@ impl<S: Store> World<S> {
 
     // Lets the next append of a node's keeper fail, and counts the line: a keeper fails no more often than lines were done.
     fn keep_fail(&mut self, svc: &Checked, node: u8, kept: bool) -> Result<List<Effect>, AllocError>
-        requires running { IsRunning svc.now self.old }
-        requires there { IsNode (nodes_of self.old) node }
-        requires count { self.old.done + 1 < 2 ^ 32 }
-        ensures effects { IfOk result (λ effects. effects ≡ (row svc.now self.old.requests self.old.seed (nodes_of self.old) (world_of svc.now self.old)
-            (line.KeepFail node kept)).effects) }
-        ensures world { OnOk result (world_of svc.now self.new ≡ (row svc.now self.old.requests self.old.seed (nodes_of self.old)
-            (world_of svc.now self.old) (line.KeepFail node kept)).world) }
-        ensures running { OnOk result (IsRunning svc.now self.new) }
-        ensures same { OnOk result (IsSame self.old self.new) }
-        ensures broken { OnErr result (self.new.broken ≡ true) }
+        requires { CanDo svc.now self.old (line.KeepFail node kept) }
+        ensures { EndsRow svc.now self.old self.new (line.KeepFail node kept) result }
     {
         let _event: Option<(Event, Kind)> = None;
         let mut effects = List::new(self.alloc);
@@ -303,13 +274,7 @@ impl<S: Store> World<S> {
         requires fits { LineFits (nodes_of self.old) (length self.old.requests) svc.now.lanes line.now }
         requires form { FormFits (has_old_form svc.now) line.now }
         requires count { self.old.done + 1 < 2 ^ 32 }
-        ensures effects { IfOk result (λ effects. effects ≡ (row svc.now self.old.requests self.old.seed (nodes_of self.old)
-            (world_of svc.now self.old) line.now).effects) }
-        ensures world { OnOk result (world_of svc.now self.new ≡ (row svc.now self.old.requests self.old.seed (nodes_of self.old)
-            (world_of svc.now self.old) line.now).world) }
-        ensures running { OnOk result (IsRunning svc.now self.new) }
-        ensures same { OnOk result (IsSame self.old self.new) }
-        ensures broken { OnErr result (self.new.broken ≡ true) }
+        ensures { EndsRow svc.now self.old self.new line.now result }
     {
         if let ScheduleLine::KeepFail { node, kept } = line {
             return self.keep_fail(svc, *node, *kept);

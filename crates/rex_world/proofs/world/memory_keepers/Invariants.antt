@@ -1,8 +1,5 @@
-use Rattle.rex_world.proofs.Common.{◌≡◌, length, All, memory_value, IsFresh}
+use Rattle.rex_world.proofs.Common.{memory_value, AreFresh}
 use Rattle.rex_world.proofs.world.memory_keepers.Given as goal
 
 abbrev pub invariant-loop : goal.invariant-loop
-invariant-loop l = record {
-  many : length l.keepers.items ≡ l.counter;
-  fresh : All (IsFresh memory_value) l.keepers.items;
-}
+invariant-loop l = AreFresh memory_value l.counter l.keepers.items

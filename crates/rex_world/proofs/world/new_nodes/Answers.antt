@@ -1,6 +1,6 @@
-use Rattle.rex_world.proofs.Common.{◌≡◌, ◌+◌, ◌∷◌, length, ap, arith, subst, sym, ◌∙◌, All, into_iter_items, All-head, value_by, IsFresh}
+use Rattle.rex_world.proofs.Common.{◌≡◌, ◌+◌, ◌∷◌, length, ap, arith, subst, sym, ◌∙◌, All, into_iter_items, All-head, value_by, IsFresh, AreNew}
 use Rattle.std.proofs.lemmas.List.Elements.{All-rest}
-use Rattle.rex_world.proofs.Beginning.{AreNew, new_next, none_new}
+use Rattle.rex_world.proofs.Beginning.{new_next, none_new}
 use Rattle.rex_world.proofs.world.new_nodes.Goals as goal
 
 pub loop-keeper-init : goal.loop-keeper-init
@@ -8,9 +8,9 @@ loop-keeper-init g c =
     let e = c.into_iter-keeper-iterator.ensures.into_iter_gives.0 in
     record {
       new = none_new c.new-made.ensures.items;
-      left = omega (arith, ap length e, c.requires.many);
+      left = omega (arith, ap length e, c.requires.keepers.many);
       counted = c.into_iter-keeper-iterator.ensures.into_iter_gives.1 ∙ c.args.keepers.ok.0 ∙ sym (ap length e);
-      fresh = subst (All (IsFresh (value_by g.S.Keeper.records g.S.Keeper.faults g.S.Store.armed g.S.Store.broken g.S.Store.as_armed))) (sym e) c.requires.fresh;
+      fresh = subst (All (IsFresh (value_by g.S.Keeper.records g.S.Keeper.faults g.S.Store.armed g.S.Store.broken g.S.Store.as_armed))) (sym e) c.requires.keepers.fresh;
     }
 
 pub new_node-requires-clause-fresh : goal.new_node-requires-clause-fresh

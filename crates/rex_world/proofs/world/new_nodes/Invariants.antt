@@ -1,6 +1,5 @@
-use Rattle.rex_world.proofs.Common.{◌≡◌, ◌+◌, length, All, into_iter_items, value_by, IsFresh}
+use Rattle.rex_world.proofs.Common.{◌≡◌, ◌+◌, length, All, into_iter_items, value_by, IsFresh, AreNew}
 use Rattle.std.specs.Vec.Iter.{into_iter_len}
-use Rattle.rex_world.proofs.Beginning.{AreNew}
 use Rattle.rex_world.proofs.world.new_nodes.Given as goal
 
 -- the nodes so far are new, and the keepers that are left, one for each of the others, are fresh

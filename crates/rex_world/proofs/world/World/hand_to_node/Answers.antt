@@ -10,14 +10,11 @@ mark-requires-clause-some g c = (sent_within _ c.requires.sent).0
 pub mark-requires-clause-there : goal.mark-requires-clause-there
 mark-requires-clause-there g c = let l = (sent_within _ c.requires.sent).1 in sent_handed c.requires.running l
 
-pub call-requires-clause-running : goal.call-requires-clause-running
-call-requires-clause-running g c = marked_running _ c.mark.ensures c.requires.running
-
-pub call-requires-clause-there : goal.call-requires-clause-there
-call-requires-clause-there g c = hand_node _ _ (marked_running _ c.mark.ensures c.requires.running) _ _ (sent_on c.mark.ensures c.requires.sent)
-
-pub call-requires-clause-may : goal.call-requires-clause-may
-call-requires-clause-may g c = ((c.args.number, (sent_on c.mark.ensures c.requires.sent)), refl)
+pub call-requires : goal.call-requires
+call-requires g c =
+    let running = marked_running _ c.mark.ensures c.requires.running in
+    let sent = sent_on c.mark.ensures c.requires.sent in
+    record { running = running; there = hand_node _ _ running _ _ sent; may = ((c.args.number, sent), refl) }
 
 pub returns : goal.returns
 returns g c = record {

@@ -1,4 +1,4 @@
-use Rattle.rex_world.proofs.Common.{◌+◌, ◌++◌, [], drop, length, sym, ap, subst, ◌∙◌, arith, append-nil, on_ok_weaker, GrowsByFront, after_lines, row, IsRunning, IsSame, effects_text, ends_text, report_from, nodes_of, world_of, IsWritten}
+use Rattle.rex_world.proofs.Common.{◌+◌, ◌++◌, [], drop, length, sym, ap, subst, ◌∙◌, arith, append-nil, on_ok_weaker, GrowsByFront, after_lines, IsRunning, IsSame, effects_text, ends_text, report_from, row_in, world_of, IsWritten}
 use Rattle.rex_world.proofs.Runs.{drop_next, drop_end, next_of, report_next, still_of, done_next}
 use Rattle.rex_world.proofs.Written.{front_next, front_none, written_next, written_last}
 use Rattle.rex_world.proofs.Handing.{same_both}
@@ -8,7 +8,7 @@ use Rattle.rex_world.proofs.world.World.run.Goals as goal
 pub returns-in_err-effects-clause-front : goal.returns-in_err-effects-clause-front
 returns-in_err-effects-clause-front g c =
     front_next _
-    (effects_text c.args.svc.now (c.loop-line.self.done + 1) (row c.args.svc.now c.loop-line.self.requests c.loop-line.self.seed (nodes_of c.loop-line.self) (world_of c.args.svc.now c.loop-line.self) c.line-item.result).effects)
+    (effects_text c.args.svc.now (c.loop-line.self.done + 1) (row_in c.args.svc.now c.loop-line.self c.line-item.result).effects)
     (report_from c.args.svc.now c.args.scenario.now.requests c.args.scenario.now.seed c.args.scenario.now.nodes (next_of c.args.svc.now c.loop-line.self c.line-item.result) (drop (c.loop-line.line-index + 1) c.args.scenario.now.schedule))
     c.loop-line.invariant.written
     (report_next _ c.loop-line.invariant.of
@@ -20,7 +20,7 @@ returns-in_err-write-clause-front g c =
     let told = ap (λ n. c.loop-line.waiting.items ++ effects_text c.args.svc.now n c.as_slice.result.now) (done_next c.args.svc.now c.loop-line.self c.step.new.self c.line-item.result c.in_ok-effects.ensures.world)
     ∙ ap (λ es. c.loop-line.waiting.items ++ effects_text c.args.svc.now (c.loop-line.self.done + 1) es) (c.as_slice.ensures ∙ c.in_ok-effects.ensures.effects) in
     front_next (g.K.Sink.taken c.write.new.sink)
-    (effects_text c.args.svc.now (c.loop-line.self.done + 1) (row c.args.svc.now c.loop-line.self.requests c.loop-line.self.seed (nodes_of c.loop-line.self) (world_of c.args.svc.now c.loop-line.self) c.line-item.result).effects)
+    (effects_text c.args.svc.now (c.loop-line.self.done + 1) (row_in c.args.svc.now c.loop-line.self c.line-item.result).effects)
     (report_from c.args.svc.now c.args.scenario.now.requests c.args.scenario.now.seed c.args.scenario.now.nodes (next_of c.args.svc.now c.loop-line.self c.line-item.result) (drop (c.loop-line.line-index + 1) c.args.scenario.now.schedule))
     c.loop-line.invariant.written
     (report_next c.args.svc.now c.loop-line.invariant.of
@@ -31,7 +31,7 @@ pub loop-line-preserved : goal.loop-line-preserved
 loop-line-preserved g c =
     let told = ap (λ n. c.loop-line.waiting.items ++ effects_text c.args.svc.now n c.as_slice.result.now) (done_next c.args.svc.now c.loop-line.self c.step.new.self c.line-item.result c.in_ok-effects.ensures.world)
     ∙ ap (λ es. c.loop-line.waiting.items ++ effects_text c.args.svc.now (c.loop-line.self.done + 1) es) (c.as_slice.ensures ∙ c.in_ok-effects.ensures.effects) in
-    let still = c.in_ok-write.ensures.same in
+    let still = c.in_ok-write.ensures.ends.same in
     let world = ap (world_of c.args.svc.now) still ∙ c.in_ok-effects.ensures.world in
     let same : IsSame c.loop-line.self c.write.new.self = subst (IsSame c.loop-line.self) (sym still) c.in_ok-effects.ensures.same in
     record {
@@ -46,13 +46,13 @@ loop-line-preserved g c =
           subst (λ x. IsWritten (g.K.Sink.taken c.args.sink.now) (g.K.Sink.taken c.write.new.sink) c.write.new.waiting.items (report_from c.args.svc.now c.args.scenario.now.requests c.args.scenario.now.seed c.args.scenario.now.nodes x (drop (c.loop-line.line-index + 1) c.args.scenario.now.schedule)) (report_from c.args.svc.now c.args.scenario.now.requests c.args.scenario.now.seed c.args.scenario.now.nodes (world_of c.args.svc.now c.args.self.now) c.args.scenario.now.schedule))
           (sym world)
           (written_next (g.K.Sink.taken c.write.new.sink)
-          (effects_text c.args.svc.now (c.loop-line.self.done + 1) (row c.args.svc.now c.loop-line.self.requests c.loop-line.self.seed (nodes_of c.loop-line.self) (world_of c.args.svc.now c.loop-line.self) c.line-item.result).effects)
+          (effects_text c.args.svc.now (c.loop-line.self.done + 1) (row_in c.args.svc.now c.loop-line.self c.line-item.result).effects)
           (report_from c.args.svc.now c.args.scenario.now.requests c.args.scenario.now.seed c.args.scenario.now.nodes (next_of c.args.svc.now c.loop-line.self c.line-item.result) (drop (c.loop-line.line-index + 1) c.args.scenario.now.schedule))
           c.loop-line.invariant.written
           (report_next c.args.svc.now c.loop-line.invariant.of
           (drop_next c.as_slice-line-items.ensures c.loop-line-test.true c.line-item.is))
           (subst (IsWritten (g.K.Sink.taken c.loop-line.sink) (g.K.Sink.taken c.write.new.sink) c.write.new.waiting.items []) told c.in_ok-write.ensures.written));
-      later = omega (arith, c.in_ok-write.ensures.later, c.loop-line.invariant.later);
+      later = omega (arith, c.in_ok-write.ensures.ends.cause.later, c.loop-line.invariant.later);
     }
 
 pub returns-clause-whole : goal.returns-clause-whole
@@ -87,4 +87,4 @@ returns-clause-leads g c =
       same = subst (IsSame c.args.self.now) (sym still) c.loop-line.invariant.same;
       done = ap (λ w. w.done) still ∙ c.loop-line.invariant.done ∙ ap (λ n. c.args.self.now.done + n) (omega (arith, c.loop-line-test.false, c.loop-line.auto.line-index-end, ap length c.as_slice-line-items.ensures));
     })
-    c.write_ends.ensures.same
+    c.write_ends.ensures.ends.same

@@ -4,12 +4,12 @@ use Rattle.rex_world.proofs.Placed.{here_so, member_so}
 use Rattle.rex_world.proofs.Shown.{releases_long}
 use Rattle.rex_world.proofs.world.World.show.Goals as goal
 
-pub show-requires-clause-member : goal.show-requires-clause-member
-show-requires-clause-member g c = member_so _ c.requires.there _ _ c.index.ensures _ _ c.requires.members
-
-pub show-requires-clause-releases : goal.show-requires-clause-releases
-show-requires-clause-releases g c =
-    subst (λ x. AreReleased x c.args.effects.now) (here_so _ c.requires.there _ _ c.index.ensures) c.requires.releases
+pub show-requires : goal.show-requires
+show-requires g c = record {
+  member = member_so _ c.requires.there _ _ c.index.ensures _ _ c.requires.members;
+  clients = ap length c.deref_mut.ensures.value ∙ c.requires.clients;
+  releases = subst (λ x. AreReleased x c.args.effects.now) (here_so _ c.requires.there _ _ c.index.ensures) c.requires.releases;
+}
 
 pub returns-clause-seen : goal.returns-clause-seen
 returns-clause-seen g c =
