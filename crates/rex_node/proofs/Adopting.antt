@@ -1,5 +1,5 @@
 -- A node that goes on adopts the value that was reported for the next instance; alone it knows it at once.
-use Rattle.rex_node.proofs.Common.{◌≡◌, ℕ, zero, suc, ◌+◌, ◌-◌, ◌*◌, ◌^◌, ◌<◌, ◌≤◌, Bool, true, false, cond, not, ◌&&◌, List, [], ◌∷◌, ◌++◌, length, inl, inr, Option, Some, None, refl, sym, ap, subst, ◌∙◌, arith, map, is_some, is_none, nat_lt, option_map, IfSome, IsSome, All, and_parts, le-ltb, lt-ltb, same_Some, Kept, IsValue, accepting, AreCounted, ProposerValue, is_candidate, proposed, closed, IsBest, best_for, counted_none, counted_push, Declarations, IsService, IsChecked, StateValue, Answer, Effect, Rec, Proposal, proposal_of, known, Failure, Lead, Role, Service, After, Leading, is_majority, LeadFits, length_push, Call, append, best, choose, decide, lead, leading, learned, led, logged, others, propose, send, settle, turn, Chose, Known, Value, events_of, service_of, values_fit, CallHere, Going, On, Down, Again, Done, Draft, proposal_in, NodeValue, ActingValue, IsCutAt, IsKept, HasGoneOn, IsProposer, IsSame, IsUp, Proposes, here_of, lead_of, open_of, role_of, armed_with, BreaksOff, Comes, Fell, IsStuck, Leads, LosesFirst, HasTurns, RunsOn, above, so_far, FromLead, GoesRound, IsFree, accept_own, knowing, HasLearned, HasOpened, IsOwnCut, MayPropose, Learns, LearnsShort, Opens, OpensShort, goes_on, may_lead, opened, reported_value, settling}
+use Rattle.rex_node.proofs.Common.{◌≡◌, ℕ, zero, suc, ◌+◌, ◌-◌, ◌*◌, ◌^◌, ◌<◌, ◌≤◌, Bool, true, false, cond, not, ◌&&◌, List, [], ◌∷◌, ◌++◌, length, inl, inr, Option, Some, None, refl, sym, ap, subst, ◌∙◌, arith, map, is_some, is_none, nat_lt, option_map, IfSome, IsSome, All, and_parts, le-ltb, lt-ltb, same_Some, Kept, IsValue, accepting, AreCounted, ProposerValue, is_candidate, proposed, closed, IsBest, best_for, counted_none, counted_push, Declarations, IsService, IsChecked, StateValue, Answer, Effect, Rec, Proposal, proposal_of, known, Failure, Lead, Role, Service, After, Leading, is_majority, LeadFits, length_push, Call, append, best, choose, decide, lead, leading, learned, led, logged, others, propose, send, settle, turn, Chose, Known, Value, events_of, service_of, values_fit, CallHere, Going, On, Down, Again, Done, Draft, proposal_in, NodeValue, ActingValue, IsCutAt, IsKept, HasGoneOn, IsProposer, IsSame, IsUp, Proposes, here_of, lead_of, open_of, role_of, armed_with, BreaksOff, Comes, Fell, IsStuck, Leads, LosesFirst, HasTurns, above, so_far, FromLead, GoesRound, IsFree, accept_own, knowing, HasLearned, HasOpened, IsOwnCut, MayPropose, Learns, LearnsShort, Opens, OpensShort, goes_on, may_lead, opened, reported_value, settling, MaySettle}
 use Rattle.std.proofs.lemmas.List.Elements.{All-contains, Contains-append_right}
 use Rattle.rex_ballot.specs.Ballot as ballots
 use Rattle.rex_paxos.specs.Counting as counting
@@ -116,22 +116,26 @@ chooses_of (Some p) {w} {i} {v} g r =
 
 -- ---- a node that adopts
 
--- the node has proposed the value, with this told, and goes on
-pub record HasProposed {K : Type 0} (records : K → List (List ℕ)) (gives : K → List ℕ → Answer → K → Type 0) (faults : K → ℕ) (service : Declarations) (past : List Value) (told : Effect) (i : ℕ) (v : Value) (x y : NodeValue K) (before mid : Draft) : Type 0 where
-  pub opens : Opens records gives faults service past told i v x y before mid On
-  pub parts : y ≡ record (opened x i v) { keeper = y.keeper }
-  pub longer : length (records x.keeper) < length (records y.keeper)
+module _ {K : Type 0} (records : K → List (List ℕ)) (gives : K → List ℕ → Answer → K → Type 0) (faults : K → ℕ) (service : Declarations) (past : List Value) where
+  -- the node has proposed the value, with this told, and goes on
+  pub record HasProposed (told : Effect) (i : ℕ) (v : Value) (x y : NodeValue K) (before mid : Draft) : Type 0 where
+    pub opens : Opens records gives faults service past told i v x y before mid On
+    pub parts : y ≡ record (opened x i v) { keeper = y.keeper }
+    pub longer : length (records x.keeper) < length (records y.keeper)
 
--- the node has made the value known, and goes on
-pub record HasMadeKnown {K : Type 0} (records : K → List (List ℕ)) (gives : K → List ℕ → Answer → K → Type 0) (faults : K → ℕ) (service : Declarations) (past : List Value) (i : ℕ) (v : Value) (x y : NodeValue K) (before mid : Draft) : Type 0 where
-  pub learns : Learns records gives faults service past i v x y before mid On
-  pub parts : y ≡ record (knowing service x i v) { keeper = y.keeper }
-  pub longer : length (records x.keeper) < length (records y.keeper)
+  -- the node has made the value known, and goes on
+  pub record HasMadeKnown (i : ℕ) (v : Value) (x y : NodeValue K) (before mid : Draft) : Type 0 where
+    pub learns : Learns records gives faults service past i v x y before mid On
+    pub parts : y ≡ record (knowing service x i v) { keeper = y.keeper }
+    pub longer : length (records x.keeper) < length (records y.keeper)
 
-module _ {K : Type 0} {records : K → List (List ℕ)} (gives : K → List ℕ → Answer → K → Type 0) (faults : K → ℕ) {service : Declarations} {past : List Value} (good : IsService service) (checked : IsChecked service) {x : NodeValue K} (kept_so : IsKept records service past x) (up : x.up ≡ true)
-    {i : ℕ} {v : Value} (next : i ≡ length x.known + 1) (c : Chooses x.proposer x.acting i v) (turns : ℕ) (may : HasTurns x turns) where
+module _ {K : Type 0} {records : K → List (List ℕ)} (gives : K → List ℕ → Answer → K → Type 0) (faults : K → ℕ) {service : Declarations} {past : List Value} (good : IsService service) (checked : IsChecked service) {x : NodeValue K} {turns : ℕ} {before : Draft} (may : MaySettle records faults service past turns x before)
+    {i : ℕ} {v : Value} (next : i ≡ length x.known + 1) (c : Chooses x.proposer x.acting i v) where
+  abbrev begun : CallHere
+  begun = so_far records service past x before
+
   u : IsUp service x (here_of records service past x)
-  u = kept_so.up up
+  u = may.kept.up may.up
 
   abbrev sv : Service Value StateValue
   sv = service_of service x.seed
@@ -146,7 +150,7 @@ module _ {K : Type 0} {records : K → List (List ℕ)} (gives : K → List ℕ 
   lead_fits = lead_fits_of records past u c.p_is
 
   may_p : 2 * above (length x.known) c.p.reported + 1 ≤ turns
-  may_p = subst (λ o. IfSome o (λ p. 2 * above (length x.known) p.reported + 1 ≤ turns)) c.p_is may
+  may_p = subst (λ o. IfSome o (λ p. 2 * above (length x.known) p.reported + 1 ≤ turns)) c.p_is may.enough
 
   next_suc : i ≡ suc (length x.known)
   next_suc = omega (arith, next)
@@ -175,8 +179,8 @@ module _ {K : Type 0} {records : K → List (List ℕ)} (gives : K → List ℕ 
   chosen_cut = subst (λ w. IfSome w (λ a. IsCutAt service x.known a v)) (sym c.idle) tt
 
   -- it may propose the value
-  pub chosen_may : faults x.keeper < 2 ^ 64 - 1 → MayPropose records faults service past x i v
-  chosen_may count = record { kept = kept_so; up = up; leads = subst (λ o. IsSome o) (sym c.p_is) refl; next = next; there = chosen_there; short = chosen_short; cut = chosen_cut; count = count }
+  pub chosen_may : MayPropose records faults service past x i v
+  chosen_may = record { kept = may.kept; up = may.up; leads = subst (λ o. IsSome o) (sym c.p_is) refl; next = next; there = chosen_there; short = chosen_short; cut = chosen_cut; count = may.count }
 
   abbrev told : Effect
   told = effect.Adopts x.id i (length (events_of v))
@@ -188,8 +192,8 @@ module _ {K : Type 0} {records : K → List (List ℕ)} (gives : K → List ℕ 
   settles t = settle t x.nodes sv x.id
 
   -- the model's call proposes the same
-  settle_is : (before : Draft) (f : Option Failure) → settles turns (armed_with f (so_far records service past x before)) ≡ propose x.nodes x.id told (armed_with f (so_far records service past x before)) l i v (settles (turns - 1))
-  settle_is before f =
+  settle_is : (f : Option Failure) → settles turns (armed_with f begun) ≡ propose x.nodes x.id told (armed_with f begun) l i v (settles (turns - 1))
+  settle_is f =
       ap (λ t. settles t d) (let t : turns ≡ suc (turns - 1) = omega (arith, may_p) in t)
       ∙ turn_chooses x.nodes sv x.id d k (ap (λ o. role_of x.acceptor o (is_some x.acting)) c.p_is) (ap (open_of x.acceptor) c.none) (ap (λ w. is_some w) c.idle) majority
       ∙ ap (λ j. choose x.nodes sv x.id d l j (best j (map proposal_in c.p.reported)) k) (sym (next_suc ∙ ap (λ vs. suc (length vs)) u.known))
@@ -197,7 +201,7 @@ module _ {K : Type 0} {records : K → List (List ℕ)} (gives : K → List ℕ 
       ∙ ap (λ w. propose x.nodes x.id (effect.Adopts x.id i (length (events_of w))) d l i w k) c.v_is
     where
       d : CallHere
-      d = armed_with f (so_far records service past x before)
+      d = armed_with f begun
 
       k : CallHere → CallHere
       k = settles (turns - 1)
@@ -207,26 +211,26 @@ module _ {K : Type 0} {records : K → List (List ℕ)} (gives : K → List ℕ 
   own = record { instance = i; ballot = c.p.ballot; value = v }
 
   -- what proposing comes to, where a proposer is there
-  opens_at : (y : NodeValue K) (before mid : Draft) (g : Going) → Opens records gives faults service past told i v x y before mid g
+  opens_at : (y : NodeValue K) (mid : Draft) (g : Going) → Opens records gives faults service past told i v x y before mid g
       → Comes records gives faults service past (λ d. propose x.nodes x.id told d l i v (settles (turns - 1))) (λ d. settles (turns - 1) (led role_with d)) x y before mid g
-  opens_at y before mid g opens = if_some _ c.p_is opens (settles (turns - 1))
+  opens_at y mid g opens = if_some _ c.p_is opens (settles (turns - 1))
 
   -- the append failed
-  pub adopt_down : {y : NodeValue K} (before mid : Draft) {said : Effect} {g : Going} → said ≡ told → g ≡ Down → IsSame x y → Opens records gives faults service past said i v x y before mid g → GoesRound records gives faults service past turns x y before mid (Done Down)
-  adopt_down {y} before mid {g} e s same opens =
-      let o = opens_at y before mid Down (subst (λ h. Opens records gives faults service past told i v x y before mid h) s (subst (λ t. Opens records gives faults service past t i v x y before mid g) e opens)) in
-      ((leads_fell (leads_same refl (settle_is before)) o.0, o.1), down_kept kept_so same o.1)
+  pub adopt_down : {y : NodeValue K} (mid : Draft) {said : Effect} {g : Going} → said ≡ told → g ≡ Down → IsSame x y → Opens records gives faults service past said i v x y before mid g → GoesRound records gives faults service past turns x y before mid (Done Down)
+  adopt_down {y} mid {g} e s same opens =
+      let o = opens_at y mid Down (subst (λ h. Opens records gives faults service past told i v x y before mid h) s (subst (λ t. Opens records gives faults service past t i v x y before mid g) e opens)) in
+      ((leads_fell (leads_same refl settle_is) o.0, o.1), down_kept may.kept same o.1)
 
   -- memory was short as it proposed
-  pub adopt_stuck : {y : NodeValue K} {before : Draft} {said : Effect} → said ≡ told → OpensShort records gives faults service past said i v x y before → IsStuck records gives faults service past (settles turns) x y before
+  pub adopt_stuck : {y : NodeValue K} {said : Effect} → said ≡ told → OpensShort records gives faults service past said i v x y before → IsStuck records gives faults service past (settles turns) x y before
   adopt_stuck e (inl s) = inl s
-  adopt_stuck {y} {before} e (inr b) =
-      inr (breaks_as (settle_is before)
+  adopt_stuck {y} e (inr b) =
+      inr (breaks_as settle_is
       (if_some _ c.p_is (subst (λ t. FromLead x (λ m. (k : CallHere → CallHere) → LosesFirst k → BreaksOff records gives faults service past (λ d. propose x.nodes x.id t d m i v k) x y before)) e b) (settles (turns - 1)) (settle_loses _ x.nodes x.id sv)))
 
   -- ---- the proposal is open
 
-  module _ {y : NodeValue K} (before mid : Draft) (h : HasProposed records gives faults service past told i v x y before mid) where
+  module _ {y : NodeValue K} (mid : Draft) (h : HasProposed records gives faults service past told i v x y before mid) where
     abbrev y_at : NodeValue K
     y_at = record x { keeper = y.keeper; acceptor = accepting x.acceptor own; proposer = Some (proposed c.p i) }
 
@@ -238,21 +242,22 @@ module _ {K : Type 0} {records : K → List (List ℕ)} (gives : K → List ℕ 
     there = so_far records service past y mid
 
     abbrev LeadsTo : (CallHere → CallHere) → Type 0
-    LeadsTo rest = Leads records gives faults service (settles turns) rest x.keeper y.keeper (so_far records service past x before) there
+    LeadsTo rest = Leads records gives faults service (settles turns) rest x.keeper y.keeper begun there
 
     comes_y : Comes records gives faults service past (λ d. propose x.nodes x.id told d l i v (settles (turns - 1))) (λ d. settles (turns - 1) (led role_with d)) x y before mid On
-    comes_y = opens_at y before mid On h.opens
+    comes_y = opens_at y mid On h.opens
 
     leads_y : LeadsTo (λ d. settles (turns - 1) (led role_with d))
-    leads_y = leads_then (leads_same refl (settle_is before)) comes_y.0
+    leads_y = leads_then (leads_same refl settle_is) comes_y.0
 
     own_counted : AreCounted x.nodes (x.id ∷ [])
-    own_counted = counted_push x.nodes [] x.id (counted_none x.nodes) (let one = kept_so.id in record { first = omega (arith, one.0); last = one.1 }) refl
+    own_counted = counted_push x.nodes [] x.id (counted_none x.nodes) (let one = may.kept.id in record { first = omega (arith, one.0); last = one.1 }) refl
 
     -- it leads with this then
     abbrev lead_with : Lead Value
     lead_with = record { ballot = c.p.ballot; counted = c.p.promised; reported = map proposal_in c.p.reported; proposal = Some (proposal_of c.p.ballot i v); accepted_by = x.id ∷ []; active = is_some x.acting }
 
+    -- its proposer then, by whether it is alone
     p_opened : {t : Bool} → nat_lt x.nodes 2 ≡ t → proposed c.p i ≡ opened_by t c.p i
     p_opened e = opened_is c.p i ∙ ap (λ b. opened_by b c.p i) (ap (λ n. nat_lt n 2) proposes.nodes_are ∙ e)
 
@@ -312,8 +317,8 @@ module _ {K : Type 0} {records : K → List (List ℕ)} (gives : K → List ℕ 
       alone_kept = comes_y.1
 
       -- it may make the value known
-      pub alone_may : faults x.keeper < 2 ^ 64 - 1 → MayPropose records faults service past y i v
-      alone_may count = record {
+      pub alone_may : MayPropose records faults service past y i v
+      alone_may = record {
         kept = alone_kept;
         up = comes_y.2;
         leads = subst (λ n. IsSome n.proposer) (sym y_is) refl;
@@ -321,15 +326,15 @@ module _ {K : Type 0} {records : K → List (List ℕ)} (gives : K → List ℕ 
         there = chosen_there;
         short = chosen_short;
         cut = subst (λ n. IsOwnCut service n v) (sym y_is) chosen_cut;
-        count = subst (λ n. n < 2 ^ 64 - 1) (sym leads_y.counted) count;
+        count = subst (λ n. n < 2 ^ 64 - 1) (sym leads_y.counted) may.count;
       }
 
       -- what it knows then runs on
-      pub alone_fits : RunsOn service (settles turns) (so_far records service past x before) → values_fit service (y.known ++ v ∷ []) ≡ true
-      alone_fits runs =
+      pub alone_fits : values_fit service (y.known ++ v ∷ []) ≡ true
+      alone_fits =
           subst (λ vs. values_fit service (vs ++ v ∷ []) ≡ true) (sym (alone_kept.up comes_y.2).known)
           (fits_before good checked (settle_learns x.nodes sv x.id _ (send (learned sv x.id l i v (known there.node.log) (logged (Known i v) None there)) (others x.nodes x.id (Chose i v))))
-          (subst (λ e. values_fit service (known e.node.log) ≡ true) (decides_is there) (rest_runs past x y before mid leads_y runs)))
+          (subst (λ e. values_fit service (known e.node.log) ≡ true) (decides_is there) (rest_runs past x y before mid leads_y may.runs)))
 
       -- ---- and learns the value
 
@@ -356,7 +361,7 @@ module _ {K : Type 0} {records : K → List (List ℕ)} (gives : K → List ℕ 
                   (subst (λ n. Fell records gives faults service decides n y.keeper z.keeper there (so_far records service past z after)) (ap (λ n. n.id) y_is) o.0),
               o.1,
             ),
-            down_kept kept_so same o.1,
+            down_kept may.kept same o.1,
           )
 
       -- memory was short as it learned
@@ -394,23 +399,23 @@ module _ {K : Type 0} {records : K → List (List ℕ)} (gives : K → List ℕ 
 
 -- ---- the same of the call
 
--- it has proposed where the call goes on
-pub proposed_as : {K : Type 0} {records : K → List (List ℕ)} {gives : K → List ℕ → Answer → K → Type 0} {faults : K → ℕ} {service : Declarations} {past : List Value} {x : NodeValue K} (y : NodeValue K) {before mid : Draft} {i : ℕ} {v : Value} {said named : Effect} {g : Going}
-    → said ≡ named → g ≡ On → Opens records gives faults service past said i v x y before mid g → HasOpened x y i v g → IsLonger records x y g → HasProposed records gives faults service past named i v x y before mid
-proposed_as {records} {gives} {faults} {service} {past} {x} y {before} {mid} {i} {v} {named} {g} e s opens parts longer = record {
-  opens = subst (λ h. Opens records gives faults service past named i v x y before mid h) s (subst (λ t. Opens records gives faults service past t i v x y before mid g) e opens);
-  parts = subst (HasOpened x y i v) s parts;
-  longer = subst (IsLonger records x y) s longer;
-}
+module _ {K : Type 0} {records : K → List (List ℕ)} {gives : K → List ℕ → Answer → K → Type 0} {faults : K → ℕ} {service : Declarations} {past : List Value} {x : NodeValue K} (y : NodeValue K) {before mid : Draft} {i : ℕ} {v : Value} where
+  -- it has proposed where the call goes on
+  pub proposed_as : {said named : Effect} {g : Going}
+      → said ≡ named → g ≡ On → Opens records gives faults service past said i v x y before mid g → HasOpened x y i v g → IsLonger records x y g → HasProposed records gives faults service past named i v x y before mid
+  proposed_as {named} {g} e s opens parts longer = record {
+    opens = subst (λ h. Opens records gives faults service past named i v x y before mid h) s (subst (λ t. Opens records gives faults service past t i v x y before mid g) e opens);
+    parts = subst (HasOpened x y i v) s parts;
+    longer = subst (IsLonger records x y) s longer;
+  }
 
--- so it has made the value known
-pub made_known_as : {K : Type 0} {records : K → List (List ℕ)} {gives : K → List ℕ → Answer → K → Type 0} {faults : K → ℕ} {service : Declarations} {past : List Value} {x : NodeValue K} (y : NodeValue K) {before mid : Draft} {i : ℕ} {v : Value} {g : Going}
-    → g ≡ On → Learns records gives faults service past i v x y before mid g → HasLearned service x y i v g → IsLonger records x y g → HasMadeKnown records gives faults service past i v x y before mid
-made_known_as {records} {gives} {faults} {service} {past} {x} y {before} {mid} {i} {v} s learns parts longer = record {
-  learns = subst (λ h. Learns records gives faults service past i v x y before mid h) s learns;
-  parts = subst (HasLearned service x y i v) s parts;
-  longer = subst (IsLonger records x y) s longer;
-}
+  -- so it has made the value known
+  pub made_known_as : {g : Going} → g ≡ On → Learns records gives faults service past i v x y before mid g → HasLearned service x y i v g → IsLonger records x y g → HasMadeKnown records gives faults service past i v x y before mid
+  made_known_as s learns parts longer = record {
+    learns = subst (λ h. Learns records gives faults service past i v x y before mid h) s learns;
+    parts = subst (HasLearned service x y i v) s parts;
+    longer = subst (IsLonger records x y) s longer;
+  }
 
 pub told_is : {node id i events : ℕ} (v : Value) → node ≡ id → events ≡ length (events_of v) → (let e : Effect = effect.Adopts node i events in e) ≡ effect.Adopts id i (length (events_of v))
 told_is {id} {i} {events} v a b = ap (λ n. effect.Adopts n i events) a ∙ ap (effect.Adopts id i) b

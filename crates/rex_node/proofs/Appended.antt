@@ -101,37 +101,38 @@ module _ {K : Type 0} (records : K → List (List ℕ)) (service : Declarations)
     role = subst (λ vs. RoleFits (length vs) (here_of records service past x).role) (sym u.known) u.numbers.role;
   }
 
--- the numbers of what a node leads with are in their ranges
-pub lead_fits_of : {K : Type 0} (records : K → List (List ℕ)) {service : Declarations} (past : List Value) {x : NodeValue K} → IsUp service x (here_of records service past x) → {p : ProposerValue} → x.proposer ≡ Some p → LeadFits (length x.known) (lead_of x.acceptor p (is_some x.acting))
-lead_fits_of records {service} past {x} u e = subst (λ o. RoleFits (length x.known) (role_of x.acceptor o (is_some x.acting))) e (beside_of records service past x u).role
-
 -- a node with the same of these parts has them of its records too
 pub logged_as : {K : Type 0} {service : Declarations} {x y : NodeValue K} {log : List (Rec Value StateValue)} → y ≡ record y { acceptor = x.acceptor; offset = x.offset; known = x.known; base = x.base; old_base = x.old_base; start = x.start } → IsLogged service x log → IsLogged service y log
 logged_as {service} {log} same l =
     subst (λ n. IsLogged service n log) (sym same)
     (record { promised = l.promised; accepted = l.accepted; offset_is = l.offset_is; low = l.low; known = l.known; base = l.base; old_base = l.old_base; few = l.few; start = l.start; short = l.short; fits = l.fits; numbers = l.numbers })
 
--- a node is up with another proposer, where that may propose so
-pub up_proposing : {K : Type 0} (records : K → List (List ℕ)) {service : Declarations} (past : List Value) {x : NodeValue K} → IsUp service x (here_of records service past x) → {p q : ProposerValue} → x.proposer ≡ Some p → p.open_instance ≡ q.open_instance
-    → Proposes x.nodes x.id x.acceptor q → LeadFits (length x.known) (lead_of x.acceptor q (is_some x.acting)) → IsUp service (record x { proposer = Some q }) (here_of records service past (record x { proposer = Some q }))
-up_proposing records {service} past {x} u {p} {q} e same h fits =
-    let b = beside_of records service past x u in
-    up_of records service past (record x { proposer = Some q })
-    (logged_as refl (logged_of records service past x u))
-    (record {
-      based = b.based;
-      replayed = b.replayed;
-      ahead = b.ahead;
-      caught_up = b.caught_up;
-      proposer = h;
-      acting = by x.acting (subst (λ o. IsActing service x.known x.acceptor o x.acting) e b.acting);
-      stamped = b.stamped;
-      role = fits;
-    })
-  where
-    by : (w : Option ActingValue) → IsActing service x.known x.acceptor (Some p) w → IsActing service x.known x.acceptor (Some q) w
-    by None k = tt
-    by (Some a) k = subst (λ o. ActsFor service x.known (open_of x.acceptor o) a) same k
+module _ {K : Type 0} (records : K → List (List ℕ)) {service : Declarations} (past : List Value) {x : NodeValue K} (u : IsUp service x (here_of records service past x)) where
+  -- the numbers of what a node leads with are in their ranges
+  pub lead_fits_of : {p : ProposerValue} → x.proposer ≡ Some p → LeadFits (length x.known) (lead_of x.acceptor p (is_some x.acting))
+  lead_fits_of e = subst (λ o. RoleFits (length x.known) (role_of x.acceptor o (is_some x.acting))) e (beside_of records service past x u).role
+
+  -- a node is up with another proposer, where that may propose so
+  pub up_proposing : {p q : ProposerValue} → x.proposer ≡ Some p → p.open_instance ≡ q.open_instance
+      → Proposes x.nodes x.id x.acceptor q → LeadFits (length x.known) (lead_of x.acceptor q (is_some x.acting)) → IsUp service (record x { proposer = Some q }) (here_of records service past (record x { proposer = Some q }))
+  up_proposing {p} {q} e same h fits =
+      let b = beside_of records service past x u in
+      up_of records service past (record x { proposer = Some q })
+      (logged_as refl (logged_of records service past x u))
+      (record {
+        based = b.based;
+        replayed = b.replayed;
+        ahead = b.ahead;
+        caught_up = b.caught_up;
+        proposer = h;
+        acting = by x.acting (subst (λ o. IsActing service x.known x.acceptor o x.acting) e b.acting);
+        stamped = b.stamped;
+        role = fits;
+      })
+    where
+      by : (w : Option ActingValue) → IsActing service x.known x.acceptor (Some p) w → IsActing service x.known x.acceptor (Some q) w
+      by None k = tt
+      by (Some a) k = subst (λ o. ActsFor service x.known (open_of x.acceptor o) a) same k
 
 module _ {K : Type 0} {service : Declarations} {x : NodeValue K} {log : List (Rec Value StateValue)} (h : IsLogged service x log) where
   -- a promise was written

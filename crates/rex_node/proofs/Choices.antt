@@ -76,10 +76,11 @@ module _ {K : Type 0} {records : K → List (List ℕ)} (gives : K → List ℕ 
   abbrev armed : Option Failure → CallHere
   armed f = armed_with f (so_far records service past x before)
 
+  -- what it does that holds the values from there on
   abbrev held : Option Failure → CallHere
   held f = cond (nat_lt (length (known log)) first) (say effect.Nothing (armed f)) (send (armed f) (take 64 (tell x.id from first 1 (known log))))
 
-  -- it holds the values from there on
+  -- so it does where they come after its offset
   holds : x.offset < first → (f : Option Failure) → on_ask x.id from first (armed f) ≡ held f
   holds late f = ap (λ t. cond t (answer_base x.id from (armed f)) (held f)) (lt-leb first (offset log) (subst (λ o. o < first) (node.up up).offset late))
 

@@ -162,6 +162,7 @@ module _ {K : Type 0} {records : K → List (List ℕ)} (gives : K → List ℕ 
   abbrev sv : Service Value StateValue
   sv = service_of service x.seed
 
+  -- the call that is told the promise, in this role
   abbrev told_in : CallHere → Role Value → CallHere
   told_in d role = on_promise x.nodes sv x.id from b (map proposal_in reported) d role
 
@@ -185,6 +186,7 @@ module _ {K : Type 0} {records : K → List (List ℕ)} (gives : K → List ℕ 
       gone : is_candidate p ≡ not (is_some x.acting || is_some p.open_instance)
       gone = subst (λ o. HasGoneOn o (is_some x.acting)) e (node.rests up)
 
+      -- what the model makes of the promise
       abbrev made_of : Option Failure → Option Why → CallHere
       made_of f = made x.nodes sv x.id from b (map proposal_in reported) x.acceptor p (is_some x.acting) (armed_with f begun)
 
@@ -293,6 +295,7 @@ module _ {K : Type 0} {records : K → List (List ℕ)} (gives : K → List ℕ 
 
       -- ---- memory was short, and it is taken back
 
+      -- nothing has changed once the promise is taken back
       taken_from : {z w v : NodeValue K} → z ≡ counting x b from reported → Stands records faults gives z w → v ≡ uncounting w (length reported) → Stands records faults gives x v
       taken_from {z} {w} {v} z_is s v_is =
           stands_back (ap (λ n. n.keeper) (counted_at z_is))

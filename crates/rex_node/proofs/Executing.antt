@@ -220,6 +220,7 @@ module _ {K : Type 0} {records : K → List (List ℕ)} {service : Declarations}
   pub turn_of_node : (lane : ℕ) (now : ℤ) → turn_of service a.recorder.state a.recorder.queue (length a.recorder.live) lane now (pcg32 a.dice).0 ≡ turn_at service (model x) lane now
   turn_of_node lane now = turn_is has lane now is_up.known x_has
 
+  -- the same node in the model where the same is executed
   here_with : {b c : ActingValue} → b ≡ c → model (record z { acting = Some b }) ≡ model (record x { acting = Some c })
   here_with {b} f =
       ap (λ n. model (record n { acting = Some b })) z_is
@@ -242,6 +243,7 @@ module _ {K : Type 0} {records : K → List (List ℕ)} {service : Declarations}
       subst (λ n. StaysResting records service past x (record n { acting = Some b })) (sym z_is)
       (record { same = record { id = refl; nodes = refl; seed = refl; decoded = refl }; kept = node_with records service past x a b node x_has k })
 
+  -- it stays where what is executed acts as before
   stays_as : {b c : ActingValue} → b ≡ c → c.answers ≡ a.answers → ((p : Option (Proposal Value)) → ActsFor service x.known p a → ActsFor service x.known p c) → StaysResting records service past x (record z { acting = Some b })
   stays_as f same k = subst (λ c. StaysResting records service past x (record z { acting = Some c })) (sym f) (stays (same, k))
 

@@ -16,24 +16,25 @@ module _ {K : Type 0} (records : K → List (List ℕ)) (service : Declarations)
       ap (λ f. call_at (here_of records service past x) (map (message_in past) draft.sends.items) f) e
       ∙ ap (λ n. call_at (here_of records service past x) n es) m
 
--- a node is kept within a call too
-pub within : {K : Type 0} {records : K → List (List ℕ)} {service : Declarations} {past : List Value} {x : NodeValue K} → IsResting records service past x → IsKept records service past x
-within h = record { id = h.id; few = h.few; up = h.up; reached = h.reached; decoded = h.decoded }
+module _ {K : Type 0} {records : K → List (List ℕ)} {service : Declarations} {past : List Value} {x : NodeValue K} where
+  -- a node is kept within a call too
+  pub within : IsResting records service past x → IsKept records service past x
+  within h = record { id = h.id; few = h.few; up = h.up; reached = h.reached; decoded = h.decoded }
 
--- and rests between calls where it has gone on
-pub kept_rests : {K : Type 0} {records : K → List (List ℕ)} {service : Declarations} {past : List Value} {x : NodeValue K} → IsKept records service past x → HasGoneOn x.proposer (is_some x.acting) → IsResting records service past x
-kept_rests h gone = record { id = h.id; few = h.few; up = h.up; reached = h.reached; decoded = h.decoded; rests = λ _. gone }
+  -- and rests between calls where it has gone on
+  pub kept_rests : IsKept records service past x → HasGoneOn x.proposer (is_some x.acting) → IsResting records service past x
+  kept_rests h gone = record { id = h.id; few = h.few; up = h.up; reached = h.reached; decoded = h.decoded; rests = λ _. gone }
 
--- the same node is kept where it is down
-pub down_kept : {K : Type 0} {records : K → List (List ℕ)} {service : Declarations} {past : List Value} {x y : NodeValue K} → IsKept records service past x → IsSame x y → IsDown y → IsResting records service past y
-down_kept {service} {x} {y} kept same down = record {
-  id = subst (λ n. (0 < n) × (n ≤ y.nodes)) (sym same.id) (subst (λ n. (0 < x.id) × (x.id ≤ n)) (sym same.nodes) kept.id);
-  few = subst (λ n. n ≤ most_nodes) (sym same.nodes) kept.few;
-  up = λ t. absurd (false≢true (sym down.down ∙ t));
-  reached = bare_reached service y.offset y.known down.bare;
-  decoded = subst (HasDecoded service) (sym same.decoded) kept.decoded;
-  rests = λ t. absurd (false≢true (sym down.down ∙ t));
-}
+  -- the same node is kept where it is down
+  pub down_kept : {y : NodeValue K} → IsKept records service past x → IsSame x y → IsDown y → IsResting records service past y
+  down_kept {y} kept same down = record {
+    id = subst (λ n. (0 < n) × (n ≤ y.nodes)) (sym same.id) (subst (λ n. (0 < x.id) × (x.id ≤ n)) (sym same.nodes) kept.id);
+    few = subst (λ n. n ≤ most_nodes) (sym same.nodes) kept.few;
+    up = λ t. absurd (false≢true (sym down.down ∙ t));
+    reached = bare_reached service y.offset y.known down.bare;
+    decoded = subst (HasDecoded service) (sym same.decoded) kept.decoded;
+    rests = λ t. absurd (false≢true (sym down.down ∙ t));
+  }
 
 -- ---- the last part of a call
 

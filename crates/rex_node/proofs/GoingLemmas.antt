@@ -1,5 +1,5 @@
 -- How parts of a call follow one another.
-use Rattle.rex_node.proofs.Common.{◌≡◌, ℕ, ◌+◌, ◌<◌, Bool, true, false, List, [], ◌∷◌, ◌++◌, length, Ok, Err, Option, Some, None, refl, sym, ap, subst, ◌∙◌, append_assoc, length-append, arith, if◌then◌else◌, list_all-append, Declarations, Answer, Failed, chained, StateValue, Rec, Failure, down_node, After, append, logged, Value, CallHere, armed_with, failed_records, AreStated, is_stated, one_later, later, Leads, Fell}
+use Rattle.rex_node.proofs.Common.{◌≡◌, ℕ, ◌+◌, ◌<◌, Bool, true, false, List, [], ◌∷◌, ◌++◌, length, Ok, Err, Option, Some, None, refl, sym, ap, subst, ◌∙◌, append_assoc, length-append, arith, if◌then◌else◌, list_all-append, Declarations, Answer, Failed, chained, StateValue, Rec, Failure, down_node, After, append, logged, Value, CallHere, armed_with, failed_records, AreStated, is_stated, one_later, later, Leads, Fell, Draft, Going, On, Appends, NodeValue}
 use Rattle.std.proofs.lemmas.List.{append-nil}
 use Rattle.rex_report.specs.declared.effect.Effect.TheVariants as effect
 use Rattle.rex_node.specs.Calls.{failed_many}
@@ -110,3 +110,10 @@ module _ {K : Type 0} (records : K → List (List ℕ)) (gives : K → List ℕ 
         one_failed : (kept : Bool) → length (if kept then r ∷ d.node.log else d.node.log) ≡ failed_many kept 0 + length d.node.log
         one_failed true = omega arith
         one_failed false = omega arith
+
+-- an append that went well is one record more
+pub longer_by : {K : Type 0} (records : K → List (List ℕ)) (gives : K → List ℕ → Answer → K → Type 0) (faults : K → ℕ) (x y : NodeValue K) (before after : Draft) (bytes : List ℕ) {g : Going} {k : K}
+    → Appends records faults gives x y before after bytes g → g ≡ On → k ≡ y.keeper → length (records x.keeper) < length (records k)
+longer_by records gives faults x y before after bytes h on same =
+    let kept = (subst (λ f. Appends records faults gives x y before after bytes f) on h).0 in
+    omega (arith, ap (λ k. length (records k)) same, ap length kept.records, length-append (records x.keeper) (bytes ∷ []))

@@ -1,8 +1,7 @@
 -- A majority accepted the value of the next instance: the node knows it.
-use Rattle.rex_node.proofs.Common.{◌≡◌, ℕ, ◌+◌, ◌<◌, ◌≤◌, Bool, true, not, List, [], ◌∷◌, ◌++◌, length, take, Option, Some, None, inr, refl, sym, ap, subst, ◌∙◌, arith, map, is_some, option_map, IfSome, IsSome, unwrap_or, false≢true, take-append-le, IsValue, AcceptorValue, ProposerValue, closed, counted_none, Declarations, IsService, Event, is_below, below, beyond, StateValue, noting, start_of, run, GoesFirst, run-then, run_keeps, cuts_go_first, IsRecorder, Answer, HasSpelling, record_bytes, Rec, Proposal, known, Failure, Lead, Work, Chose, LeadFits, learned, leading, others, released, send, Value, events_of, release_effect, service_of, trace_of, values_fit, CallHere, trace_push, length_push, Going, On, Down, Draft, content_in, message_in, log_of, NodeValue, ActingValue, Executes, HasStamps, IsActing, IsProposer, NumbersReplies, Proposes, IsCutAt, IsUp, IsKept, ahead_of, here_of, lead_of, work_of, armed_with, Appends, so_far, IsOwnCut, Learns, LearnsShort, knowing, replayed_to, settling, Service}
+use Rattle.rex_node.proofs.Common.{◌≡◌, ℕ, ◌+◌, ◌<◌, ◌≤◌, Bool, true, not, List, [], ◌∷◌, ◌++◌, length, take, Option, Some, None, inr, refl, sym, ap, subst, ◌∙◌, arith, map, is_some, option_map, IfSome, unwrap_or, false≢true, take-append-le, AcceptorValue, ProposerValue, closed, counted_none, Declarations, IsService, Event, is_below, below, beyond, StateValue, noting, start_of, run, GoesFirst, run-then, run_keeps, cuts_go_first, IsRecorder, Answer, HasSpelling, record_bytes, Rec, Proposal, known, Failure, Lead, Work, Chose, LeadFits, learned, leading, others, released, send, Value, events_of, release_effect, service_of, trace_of, values_fit, CallHere, trace_push, length_push, Going, On, Down, Draft, content_in, message_in, log_of, NodeValue, ActingValue, Executes, HasStamps, IsActing, IsProposer, NumbersReplies, Proposes, IsCutAt, IsUp, IsKept, ahead_of, here_of, lead_of, work_of, armed_with, Appends, so_far, Learns, LearnsShort, knowing, replayed_to, settling, Service, MayPropose}
 use Rattle.std.proofs.Common.{filter}
 use Rattle.std.proofs.lemmas.List.Sums.{length-filter, count_by-le-length}
-use Rattle.rex_ballot.specs.Ballot as ballots
 use Rattle.rex_gate.specs.Noted.{noted}
 use Rattle.rex_gate.proofs.Traced.{run_noted}
 use Rattle.rex_record.specs.Value.{releases, state_at}
@@ -131,8 +130,7 @@ ahead_known service values v (Some a) i ahead start few h e = absurd (cc)
 
 -- ---- a node that learns
 
-module _ {K : Type 0} {records : K → List (List ℕ)} (gives : K → List ℕ → Answer → K → Type 0) (faults : K → ℕ) {service : Declarations} {past : List Value} (good : IsService service) {x : NodeValue K} (kept_so : IsKept records service past x) (up : x.up ≡ true) (leads : IsSome x.proposer)
-    {i : ℕ} {v : Value} (next : i ≡ length x.known + 1) (there : ballots.IsInstance i) (short : IsValue v) (fits : values_fit service (x.known ++ v ∷ []) ≡ true) (cut : IsOwnCut service x v) where
+module _ {K : Type 0} {records : K → List (List ℕ)} (gives : K → List ℕ → Answer → K → Type 0) (faults : K → ℕ) {service : Declarations} {past : List Value} (good : IsService service) {x : NodeValue K} {i : ℕ} {v : Value} (may : MayPropose records faults service past x i v) (fits : values_fit service (x.known ++ v ∷ []) ≡ true) where
   abbrev log : List (Rec Value StateValue)
   log = log_of service past (records x.keeper)
 
@@ -140,32 +138,33 @@ module _ {K : Type 0} {records : K → List (List ℕ)} (gives : K → List ℕ 
   sv = service_of service x.seed
 
   u : IsUp service x (here_of records service past x)
-  u = kept_so.up up
+  u = may.kept.up may.up
 
   -- what it leads with
   abbrev p : ProposerValue
-  p = (some_of x.proposer leads).0
+  p = (some_of x.proposer may.leads).0
 
   p_is : x.proposer ≡ Some p
-  p_is = (some_of x.proposer leads).1
+  p_is = (some_of x.proposer may.leads).1
 
   abbrev lead : Lead Value
   lead = lead_of x.acceptor p (is_some x.acting)
 
   due : i ≡ length (known log) + 1
-  due = next ∙ ap (λ vs. length vs + 1) u.known
+  due = may.next ∙ ap (λ vs. length vs + 1) u.known
 
   settled : SettlesWith good x.seed x.known x.acceptor p v x.acting
-  settled = settles_with good x.seed x.known x.acceptor p v x.acting (subst (λ o. IsActing service x.known x.acceptor o x.acting) p_is u.acting) cut
+  settled = settles_with good x.seed x.known x.acceptor p v x.acting (subst (λ o. IsActing service x.known x.acceptor o x.acting) p_is u.acting) may.cut
 
   spelled : HasSpelling (kept.Known i v)
-  spelled = record { in_range = (there, short) }
+  spelled = record { in_range = (may.there, may.short) }
 
   -- its recorder can settle
   pub learn_settles : {y : NodeValue K} → y ≡ record x { keeper = y.keeper } → IfSome y.acting (CanSettle service)
   learn_settles y_is = subst (λ n. IfSome n.acting (CanSettle service)) (sym y_is) settled.can
 
   module _ {w : Value} (w_is : w ≡ v) (y : NodeValue K) (before mid : Draft) (g : Going) (h : Appends records faults gives x y before mid (record_bytes (kept.Known i w)) g) where
+    -- the append is of the value
     as_own : {now : Going} → g ≡ now → Appends records faults gives x y before mid (record_bytes (kept.Known i v)) now
     as_own e = appends_at records gives faults x y before mid (kept.Known i w) (ap (λ z. kept.Known i z) w_is) e h
 
@@ -193,7 +192,7 @@ module _ {K : Type 0} {records : K → List (List ℕ)} (gives : K → List ℕ 
       z_logged : IsLogged service z_at (log_of service past (records y.keeper))
       z_logged =
           subst (IsLogged service z_at) (sym (appended_log records gives faults service past x y before mid spelled due refl on))
-          (logged_as refl (logged_known (logged_of records service past x u) (omega (arith, next)) (instance_fits there) fits))
+          (logged_as refl (logged_known (logged_of records service past x u) (omega (arith, may.next)) (instance_fits may.there) fits))
 
       z_beside : Beside records service past z_at
       z_beside =
@@ -201,18 +200,18 @@ module _ {K : Type 0} {records : K → List (List ℕ)} (gives : K → List ℕ 
           let based : x.base ≤ x.replayed = b.based in
           let replayed : x.replayed ≤ length x.known = b.replayed in
           record {
-            based = replayed_from x.acting next based replayed;
-            replayed = subst (λ n. replayed_to x.acting i x.replayed ≤ n) (let n : length x.known + 1 ≡ length (x.known ++ v ∷ []) = omega (arith, length_push x.known v) in n) (replayed_most x.acting next replayed);
+            based = replayed_from x.acting may.next based replayed;
+            replayed = subst (λ n. replayed_to x.acting i x.replayed ≤ n) (let n : length x.known + 1 ≡ length (x.known ++ v ∷ []) = omega (arith, length_push x.known v) in n) (replayed_most x.acting may.next replayed);
             ahead = ahead_known service x.known v x.acting i x.ahead x.start replayed b.ahead;
-            caught_up = known_all service x.acting _ _ next (omega (arith, length_push x.known v));
+            caught_up = known_all service x.acting _ _ may.next (omega (arith, length_push x.known v));
             proposer = proposes_closed (subst (IsProposer x.nodes x.id x.acceptor) p_is b.proposer);
             acting = settled.acting;
-            stamped = settled.stamps (let last = there.last in omega (arith, next, last)) b.stamped;
+            stamped = settled.stamps (let last = may.there.last in omega (arith, may.next, last)) b.stamped;
             role = lead_closed x.acceptor p (lead_fits_of records past u p_is);
           }
 
       z_kept : IsKept records service past z_at
-      z_kept = record { id = kept_so.id; few = kept_so.few; up = λ t. up_of records service past _ z_logged z_beside; reached = still_reached service x.offset x.reached (omega (arith, length_push x.known v)) (λ n l. take-append-le n x.known (v ∷ []) l) kept_so.reached; decoded = kept_so.decoded }
+      z_kept = record { id = may.kept.id; few = may.kept.few; up = λ t. up_of records service past _ z_logged z_beside; reached = still_reached service x.offset x.reached (omega (arith, length_push x.known v)) (λ n l. take-append-le n x.known (v ∷ []) l) may.kept.reached; decoded = may.kept.decoded }
 
       -- the call goes on with the value known
       pub learn_on : {z : NodeValue K} (after : Draft) → z ≡ knowing service y i v → after.effects.items ≡ mid.effects.items ++ effect.Known y.id i ∷ releases_in y.acting → map (message_in past) after.sends.items ≡ map (message_in past) mid.sends.items ++ others y.nodes y.id (content_in past (sent.Chosen i v))
@@ -224,7 +223,7 @@ module _ {K : Type 0} {records : K → List (List ℕ)} (gives : K → List ℕ 
             leads_then (appended_leads records gives faults service past x y before mid spelled due refl {k = tells k} (λ f. refl) on)
                 (leads_same refl (λ f. ap k (comes f))),
             z_kept,
-            up,
+            may.up,
           )))
         where
           all : z ≡ z_at

@@ -227,6 +227,7 @@ module _ {K : Type 0} {records : K → List (List ℕ)} (gives : K → List ℕ 
   abbrev takes : Option Failure → CallHere → CallHere
   takes f d = append f x.id (Transferred (first k past) ((service_of service x.seed).state (first k past))) d (λ e. follow x.id (effect.Transferred x.id (length (first k past)) ∷ []) (with_replayed (length (first k past)) e))
 
+  -- which it does is told by how much it knows
   decides : {t : Bool} → nat_le (length (first k past)) (length (known known_log)) ≡ t → (f : Option Failure) → on_snapshot (service_of service x.seed) x.id (first k past) (armed_with f told_so_far) ≡ cond t (ignores (length (first k past)) (suc (length (known known_log))) (armed_with f told_so_far)) (takes f (armed_with f told_so_far))
   decides e f = ap (λ t. cond t (ignores (length (first k past)) (suc (length (known known_log))) (armed_with f told_so_far)) (takes f (armed_with f told_so_far))) e
 

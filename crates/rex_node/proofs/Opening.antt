@@ -1,5 +1,5 @@
 -- A node that leads proposes a value: it accepts the value itself and counts that.
-use Rattle.rex_node.proofs.Common.{◌≡◌, ℕ, suc, ◌+◌, ◌<◌, ◌≤◌, Bool, true, false, cond, List, [], ◌∷◌, ◌++◌, length, Option, Some, None, inr, refl, sym, ap, subst, ◌∙◌, arith, map, max, is_some, option_map, IfSome, IsSome, unwrap_or, Kept, IsValue, proposal_for, AcceptorValue, accepting, ProposerValue, proposed, counted_none, counted_push, Declarations, Answer, HasSpelling, record_bytes, Effect, Proposal, proposal_of, Failure, Leading, Accept, LeadFits, leading, led, others, say, send, Value, CallHere, same_Some, Going, On, Down, Draft, content_in, message_in, log_of, proposal_in, NodeValue, ActingValue, ActsFor, IsActing, IsProposer, Proposes, IsCutAt, IsUp, IsKept, HasOpen, OpenIsCut, here_of, lead_of, open_of, armed_with, Appends, so_far, FromLead, IsOwnCut, Opens, OpensShort, accept_own, opened, Lead, Role, Message}
+use Rattle.rex_node.proofs.Common.{◌≡◌, ℕ, suc, ◌<◌, ◌≤◌, Bool, true, false, cond, List, [], ◌∷◌, ◌++◌, length, Option, Some, None, inr, refl, sym, ap, subst, ◌∙◌, arith, map, max, is_some, option_map, IfSome, IsSome, unwrap_or, Kept, proposal_for, AcceptorValue, accepting, ProposerValue, proposed, counted_none, counted_push, Declarations, Answer, HasSpelling, record_bytes, Effect, Proposal, proposal_of, Failure, Leading, Accept, LeadFits, leading, led, others, say, send, Value, CallHere, same_Some, Going, On, Down, Draft, content_in, message_in, log_of, proposal_in, NodeValue, ActingValue, ActsFor, IsActing, IsProposer, Proposes, IsCutAt, IsUp, IsKept, HasOpen, OpenIsCut, here_of, lead_of, open_of, armed_with, Appends, so_far, FromLead, Opens, OpensShort, accept_own, opened, Lead, Role, Message, MayPropose}
 use Rattle.rex_ballot.specs.Ballot as ballots
 use Rattle.rex_ballot.proofs.Lists.{proposals_are_replaced}
 use Rattle.rex_paxos.specs.Counting as counting
@@ -96,6 +96,7 @@ lead_opened a p {active} {i} {v} e many =
 pub if_some : {A : Type 0} (P : A → Type 0) {o : Option A} {x : A} → o ≡ Some x → IfSome o P → P x
 if_some P e h = subst (λ o. IfSome o P) e h
 
+-- and the other way round
 pub some_if : {A : Type 0} (P : A → Type 0) {o : Option A} {x : A} → o ≡ Some x → P x → IfSome o P
 some_if P e h = subst (λ o. IfSome o P) (sym e) h
 
@@ -106,18 +107,17 @@ some_of (Some x) h = (x, refl)
 
 -- ---- a node that proposes
 
-module _ {K : Type 0} {records : K → List (List ℕ)} (gives : K → List ℕ → Answer → K → Type 0) (faults : K → ℕ) {service : Declarations} {past : List Value} {x : NodeValue K} (kept_so : IsKept records service past x) (up : x.up ≡ true) (leads : IsSome x.proposer)
-    {i : ℕ} {v : Value} (next : i ≡ length x.known + 1) (there : ballots.IsInstance i) (short : IsValue v) (cut : IsOwnCut service x v)
+module _ {K : Type 0} {records : K → List (List ℕ)} (gives : K → List ℕ → Answer → K → Type 0) (faults : K → ℕ) {service : Declarations} {past : List Value} {x : NodeValue K} {i : ℕ} {v : Value} (may : MayPropose records faults service past x i v)
     {b : ℕ} (b_is : b ≡ unwrap_or (option_map (λ (p : ProposerValue). p.ballot) x.proposer) 0) where
   u : IsUp service x (here_of records service past x)
-  u = kept_so.up up
+  u = may.kept.up may.up
 
   -- what it leads with
   abbrev p : ProposerValue
-  p = (some_of x.proposer leads).0
+  p = (some_of x.proposer may.leads).0
 
   p_is : x.proposer ≡ Some p
-  p_is = (some_of x.proposer leads).1
+  p_is = (some_of x.proposer may.leads).1
 
   abbrev lead : Lead Value
   lead = lead_of x.acceptor p (is_some x.acting)
@@ -129,7 +129,7 @@ module _ {K : Type 0} {records : K → List (List ℕ)} (gives : K → List ℕ 
   lead_fits = lead_fits_of records past u p_is
 
   spelled : HasSpelling (kept.Accepted p.ballot i v)
-  spelled = record { in_range = (fits_ballot lead_fits.ballot, there, short) }
+  spelled = record { in_range = (fits_ballot lead_fits.ballot, may.there, may.short) }
 
   b_own : b ≡ p.ballot
   b_own = b_is ∙ ap (λ o. unwrap_or (option_map (λ q. q.ballot) o) 0) p_is
@@ -138,6 +138,7 @@ module _ {K : Type 0} {records : K → List (List ℕ)} (gives : K → List ℕ 
   propose_spelled {w} w_is = subst (λ n. HasSpelling (kept.Accepted n i w)) (sym b_own) (subst (λ z. HasSpelling (kept.Accepted p.ballot i z)) (sym w_is) spelled)
 
   module _ (told : Effect) {w : Value} (w_is : w ≡ v) (y : NodeValue K) (before mid : Draft) (g : Going) (h : Appends records faults gives x y before mid (record_bytes (kept.Accepted b i w)) g) where
+    -- the append is of the node's own ballot, and of the value
     as_own : {now : Going} → g ≡ now → Appends records faults gives x y before mid (record_bytes (kept.Accepted p.ballot i v)) now
     as_own e = appends_at records gives faults x y before mid (kept.Accepted b i w) (ap (λ n. kept.Accepted n i w) b_own ∙ ap (λ z. kept.Accepted p.ballot i z) w_is) e h
 
@@ -167,7 +168,7 @@ module _ {K : Type 0} {records : K → List (List ℕ)} (gives : K → List ℕ 
       z_logged =
           let l = logged_of records service past x u in
           subst (IsLogged service z_at) (sym (appended_log records gives faults service past x y before mid spelled tt refl on))
-          (logged_as refl (logged_accepted l lead_fits.ballot (instance_fits there) short (omega (arith, l.low, l.few, next, l.offset_is))))
+          (logged_as refl (logged_accepted l lead_fits.ballot (instance_fits may.there) may.short (omega (arith, l.low, l.few, may.next, l.offset_is))))
 
       z_beside : Beside records service past z_at
       z_beside = let b = beside_of records service past x u in record {
@@ -175,14 +176,14 @@ module _ {K : Type 0} {records : K → List (List ℕ)} (gives : K → List ℕ 
         replayed = b.replayed;
         ahead = b.ahead;
         caught_up = b.caught_up;
-        proposer = proposes_opened kept_so.id.0 kept_so.id.1 (subst (IsProposer x.nodes x.id x.acceptor) p_is u.proposer) i v;
-        acting = acting_opened service x.known x.acceptor p x.acting i v (subst (λ o. IsActing service x.known x.acceptor o x.acting) p_is u.acting) cut;
+        proposer = proposes_opened may.kept.id.0 may.kept.id.1 (subst (IsProposer x.nodes x.id x.acceptor) p_is u.proposer) i v;
+        acting = acting_opened service x.known x.acceptor p x.acting i v (subst (λ o. IsActing service x.known x.acceptor o x.acting) p_is u.acting) may.cut;
         stamped = b.stamped;
-        role = role_opened x.acceptor p v (omega (arith, next)) (instance_fits there) lead_fits;
+        role = role_opened x.acceptor p v (omega (arith, may.next)) (instance_fits may.there) lead_fits;
       }
 
       z_kept : IsKept records service past z_at
-      z_kept = record { id = kept_so.id; few = kept_so.few; up = λ t. up_of records service past z_at z_logged z_beside; reached = kept_so.reached; decoded = kept_so.decoded }
+      z_kept = record { id = may.kept.id; few = may.kept.few; up = λ t. up_of records service past z_at z_logged z_beside; reached = may.kept.reached; decoded = may.kept.decoded }
 
       -- the call goes on with its proposal open
       pub propose_on : {z : NodeValue K} (after : Draft) → z ≡ opened y i v → after.effects.items ≡ mid.effects.items ++ told ∷ [] → FromLead y (λ l. map (message_in past) after.sends.items ≡ map (message_in past) mid.sends.items ++ others y.nodes y.id (content_in past (sent.Accept l.ballot i v)))
@@ -194,7 +195,7 @@ module _ {K : Type 0} {records : K → List (List ℕ)} (gives : K → List ℕ 
             leads_then (appended_leads records gives faults service past x y before mid spelled tt refl {k = tells k} (λ f. refl) on)
                 (leads_same refl (comes k)),
             z_kept,
-            up,
+            may.up,
           )))
         where
           all : z ≡ z_at

@@ -41,6 +41,7 @@ module _ {K : Type 0} {records : K → List (List ℕ)} (gives : K → List ℕ 
   abbrev StaysWell : Draft → (CallHere → CallHere) → Type 0
   StaysWell after call = EndsWell records gives faults service past x x before after call
 
+  -- so it is where the call comes to the draft
   stays : {call : CallHere → CallHere} (after : Draft) → ((f : Option Failure) → call (armed f) ≡ armed_with f (so_far records service past x after)) → StaysWell after call
   stays after h = ends_same x before after refl node up h
 
@@ -57,10 +58,12 @@ module _ {K : Type 0} {records : K → List (List ℕ)} (gives : K → List ℕ 
     abbrev held : Option Failure → CallHere
     held f = cond (nat_lt (promise log) b) (raises f) (promised x.id from b first (armed f))
 
+    -- a ballot that is no less than the promise is looked into further
     no_less : x.acceptor.promised ≤ b → (f : Option Failure) → prepare (armed f) ≡ cond (nat_le first (offset log)) (answer_base x.id from (armed f)) (held f)
     no_less more f =
         ap (λ t. cond t (send (armed f) (answer x.id from (Nack b (promise log)))) (cond (nat_le first (offset log)) (answer_base x.id from (armed f)) (held f))) (le-ltb b (promise log) (omega (arith, more, u.promised)))
 
+    -- and so is an instance after the offset
     holds : x.acceptor.promised ≤ b → x.offset < first → (f : Option Failure) → prepare (armed f) ≡ held f
     holds more late f =
         no_less more f

@@ -68,6 +68,7 @@ module _ {K : Type 0} (records : K → List (List ℕ)) (gives : K → List ℕ 
         subst (λ n. FromLead x (λ l. P (whole_of n (effect.Proposes x.id (length x.known + 1) events) l))) next
         (subst (λ t. FromLead x (λ l. P (whole_of instance t l))) told_is (from_lead x (λ l. P (whole_of instance told l)) h))
 
+    -- the call has come to where the proposal is open
     opens_now : (going : Going) → Opens records gives faults service past told instance value x mid before between going → {p : ProposerValue} → x.proposer ≡ Some p
         → Comes records gives faults service past (whole_of instance told (lead_of x.acceptor p (is_some x.acting))) (open_at (lead_of x.acceptor p (is_some x.acting))) x mid before between going
     opens_now going h {p} leads = if_some _ leads h (goes (lead_of x.acceptor p (is_some x.acting)))

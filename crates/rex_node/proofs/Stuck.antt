@@ -98,32 +98,32 @@ module _ {K : Type 0} {records : K → List (List ℕ)} {gives : K → List ℕ 
   breaks_after longer based loses (inl s) = breaks_here longer (ap (λ n. n.base) s.parts ∙ based ∙ ap (λ kept. base (log_of service past kept)) (sym s.records)) loses s.records s.faults s.short
   breaks_after longer based loses (inr b) = breaks_later b
 
--- a call that is the same breaks off where this one does
-pub breaks_as : {K : Type 0} {records : K → List (List ℕ)} {gives : K → List ℕ → Answer → K → Type 0} {faults : K → ℕ} {service : Declarations} {past : List Value} {whole same : CallHere → CallHere} {x z : NodeValue K} {before : Draft}
-    → ((f : Option Failure) → whole (armed_with f (so_far records service past x before)) ≡ same (armed_with f (so_far records service past x before))) → BreaksOff records gives faults service past same x z before → BreaksOff records gives faults service past whole x z before
-breaks_as {records} {gives} {faults} {service} {past} {whole} {same} {x} {z} {before} e h =
-    breaks_later x z before (leads_same refl e) h
+module _ {K : Type 0} {records : K → List (List ℕ)} {gives : K → List ℕ → Answer → K → Type 0} {faults : K → ℕ} {service : Declarations} {past : List Value} {whole : CallHere → CallHere} {x : NodeValue K} {before : Draft} where
+  -- a call that is the same breaks off where this one does
+  pub breaks_as : {same : CallHere → CallHere} {z : NodeValue K} → ((f : Option Failure) → whole (armed_with f (so_far records service past x before)) ≡ same (armed_with f (so_far records service past x before))) → BreaksOff records gives faults service past same x z before → BreaksOff records gives faults service past whole x z before
+  breaks_as {z} e h =
+      breaks_later x z before (leads_same refl e) h
 
--- a node with the same keeper and base has broken off too
-pub breaks_kept : {K : Type 0} {records : K → List (List ℕ)} {gives : K → List ℕ → Answer → K → Type 0} {faults : K → ℕ} {service : Declarations} {past : List Value} {whole : CallHere → CallHere} {x y z : NodeValue K} {before : Draft}
-    → z.keeper ≡ y.keeper → z.base ≡ y.base → BreaksOff records gives faults service past whole x y before → BreaksOff records gives faults service past whole x z before
-breaks_kept {records} {gives} {faults} {service} {past} {whole} {x} {before} keeper based h = record {
-  stops = subst (λ k. StopsShort records gives faults service whole x.keeper k (so_far records service past x before) (log_of service past (records k))) (sym keeper) h.stops;
-  based = based ∙ h.based ∙ ap (λ k. base (log_of service past (records k))) (sym keeper);
-}
+  -- a node with the same keeper and base has broken off too
+  pub breaks_kept : {y z : NodeValue K} → z.keeper ≡ y.keeper → z.base ≡ y.base → BreaksOff records gives faults service past whole x y before → BreaksOff records gives faults service past whole x z before
+  breaks_kept keeper based h = record {
+    stops = subst (λ k. StopsShort records gives faults service whole x.keeper k (so_far records service past x before) (log_of service past (records k))) (sym keeper) h.stops;
+    based = based ∙ h.based ∙ ap (λ k. base (log_of service past (records k))) (sym keeper);
+  }
 
--- nothing has changed
-pub stands_same : {K : Type 0} {records : K → List (List ℕ)} {gives : K → List ℕ → Answer → K → Type 0} {faults : K → ℕ} {x : NodeValue K} → Stands records faults gives x x
-stands_same {records} {faults} = record { parts = refl; records = refl; faults = refl; short = inl refl }
+module _ {K : Type 0} {records : K → List (List ℕ)} {gives : K → List ℕ → Answer → K → Type 0} {faults : K → ℕ} {x : NodeValue K} where
+  -- nothing has changed
+  pub stands_same : Stands records faults gives x x
+  stands_same = record { parts = refl; records = refl; faults = refl; short = inl refl }
 
--- nothing has changed of a node with the same keeper, and the node that this one was then is taken back
-pub stands_back : {K : Type 0} {records : K → List (List ℕ)} {gives : K → List ℕ → Answer → K → Type 0} {faults : K → ℕ} {x mid y z : NodeValue K} → mid.keeper ≡ x.keeper → z ≡ record x { keeper = y.keeper } → Stands records faults gives mid y → Stands records faults gives x z
-stands_back {records} {gives} {faults} {x} {mid} {y} {z} same z_is s = record {
-  parts = z_is ∙ ap (λ k. record x { keeper = k }) (sym keeper);
-  records = ap records keeper ∙ s.records ∙ ap records same;
-  faults = ap faults keeper ∙ s.faults ∙ ap faults same;
-  short = subst (λ k. RunsShort gives x.keeper k) (sym keeper) (subst (λ k. RunsShort gives k y.keeper) same s.short);
-}
-  where
-    keeper : z.keeper ≡ y.keeper
-    keeper = ap (λ n. n.keeper) z_is
+  -- nothing has changed of a node with the same keeper, and the node that this one was then is taken back
+  pub stands_back : {mid y z : NodeValue K} → mid.keeper ≡ x.keeper → z ≡ record x { keeper = y.keeper } → Stands records faults gives mid y → Stands records faults gives x z
+  stands_back {y} {z} same z_is s = record {
+    parts = z_is ∙ ap (λ k. record x { keeper = k }) (sym keeper);
+    records = ap records keeper ∙ s.records ∙ ap records same;
+    faults = ap faults keeper ∙ s.faults ∙ ap faults same;
+    short = subst (λ k. RunsShort gives x.keeper k) (sym keeper) (subst (λ k. RunsShort gives k y.keeper) same s.short);
+  }
+    where
+      keeper : z.keeper ≡ y.keeper
+      keeper = ap (λ n. n.keeper) z_is

@@ -9,7 +9,7 @@ use Rattle.rex_cluster.specs.Node.{new_node}
 use Rattle.rex_traits.specs.Stores.{StoreValue, fresh_store}
 use Rattle.rex_cluster.specs.Reading.{nothing_seen}
 use Rattle.rex_safety.proofs.Keeps.{beginning_kept}
-use Rattle.rex_world.specs.Kept.{CanRun, IsFirst}
+use Rattle.rex_world.specs.Kept.{IsFirst}
 use Rattle.rex_world.proofs.Endings.{heres_both}
 
 -- one more fresh store
@@ -99,13 +99,4 @@ new_first {service} {w} fits good checked requests seed h none net handed seen d
   requests = requests;
   seed = seed;
   running = new_running (few_nodes fits.nodes) good checked (subst (All (RequestFits service)) (sym requests) fits.requests) h none net handed seen done flushed whole;
-}
-
--- and the scenario can be run from there
-pub first_can_run : {S : Type 0} → {service : Declarations} {s : Scenario} {w : World S} → ScenarioFits service s → IsFirst service s w → CanRun service s w
-first_can_run fits h = record {
-  running = h.running;
-  fits = fits;
-  of = record { nodes = h.nodes; requests = h.requests; seed = h.seed };
-  count = omega (arith, ap (λ v. v.done) h.world, fits.few_lines);
 }

@@ -336,4 +336,3 @@ module _ {S : Type 0} (service : Declarations) (w : World S) (h : IsRunning serv
 
       pub starts_old : Starts service w.agreed (here_at service w.agreed old)
       starts_old = subst (Starts service w.agreed) here_old (starts_from h there)
-

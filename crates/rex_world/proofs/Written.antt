@@ -44,4 +44,3 @@ module _ {a b : List ℕ} (c : List ℕ) {waiting : List ℕ} (text : List ℕ) 
 pub written_last : {a b c waiting text rest whole : List ℕ} → IsWritten a b waiting rest whole → rest ≡ text → c ≡ b ++ (waiting ++ text) → c ≡ a ++ whole
 written_last {a} {b} {c} {waiting} {text} h is k =
     grows_more a b c h.written _ h.taken k ∙ ap (λ xs. a ++ xs) (ap (λ xs. h.written ++ (waiting ++ xs)) (sym is) ∙ h.parts)
-
